@@ -1,0 +1,97 @@
+-- The first counted step by the day's place before or after the clock's, the steps that count, and how the clock moves: it
+-- never goes back, and what doesn't count at one moment doesn't count at a later one.
+use mathlib.Core.Path.{_≡_, refl}
+use mathlib.Core.Bool.{Bool, true, false, not, cond, _&&_}
+use Prim.Native.Nat.{ℕ, _+_, _/_, _<_, _≤_}
+use native.Mathlib.Omega.{arith}
+use lib.Dec.{leb, ltb, eqb}
+use borrow.Author.Tests.{ltb-true, ltb-false, leb-true, lt-ltb, le-ltb, le-leb, lt-leb, eq-eqb}
+use Rattle.calendar.specs.Dates.{date}
+use Rattle.calendar.specs.Steps.{stepMinutes, lastSunday, stepsOf}
+use Rattle.calendar.specs.Clocks.{freshClock, firstCounted, counts, isMoment, isBefore, advance}
+use Rattle.calendar.specs.declared.clock.Clock.{Clock}
+use Rattle.calendar.specs.declared.clock.Advance.the-variants.{Moved, NoMoment, Back}
+use Rattle.lists.proofs.Below.{both-true, both-false, right-false}
+
+-- ---- firstCounted
+
+-- every step of a day after the clock's counts
+pub first-later : (c : Clock) (day : ℕ) → c .day < day → firstCounted c day ≡ 0
+unfolding firstCounted
+first-later c day h = rw (lt-ltb (c .day) day h)
+
+-- of the clock's day, those after the neutral hour
+pub first-today : (c : Clock) → firstCounted c (c .day) ≡ c .minute / stepMinutes + 2
+unfolding firstCounted
+first-today c = rw (le-ltb (c .day) (c .day) (omega arith))
+
+-- ---- counts
+
+pub counts-from : (c : Clock) (day step : ℕ) → c .day ≤ day → firstCounted c day ≤ step → counts c day step ≡ true
+unfolding counts
+counts-from c day step h k = rw (le-leb (c .day) day h, le-leb (firstCounted c day) step k)
+
+pub counts-true : (c : Clock) (day step : ℕ) → counts c day step ≡ true → (c .day ≤ day) × (firstCounted c day ≤ step)
+unfolding counts
+counts-true c day step e =
+    let p = both-true (leb (c .day) day) (leb (firstCounted c day) step) e in
+    (leb-true (c .day) day (p .0), leb-true (firstCounted c day) step (p .1))
+
+-- a later day counts whole, an earlier one not at all
+pub counts-later : (c : Clock) (day step : ℕ) → c .day < day → counts c day step ≡ true
+counts-later c day step h = counts-from c day step (omega arith) (omega (arith, first-later c day h))
+
+pub counts-past : (c : Clock) (day step : ℕ) → day < c .day → counts c day step ≡ false
+unfolding counts
+counts-past c day step h = rw (lt-leb (c .day) day h)
+
+-- with a step, each later step of its day counts
+pub counts-on : (c : Clock) (day step next : ℕ) → counts c day step ≡ true → step ≤ next → counts c day next ≡ true
+counts-on c day step next e h =
+    let p = counts-true c day step e in
+    counts-from c day next (p .0) (omega arith)
+
+-- ---- isBefore
+
+-- what counts at a moment counts at one that is not after it
+pub counts-earlier : (a b : Clock) (day step : ℕ) → isBefore b a ≡ false → counts b day step ≡ true → counts a day step ≡ true
+counts-earlier a b day step e k = go (ltb (a .day) day) refl
+  where
+    go : (t : Bool) → ltb (a .day) day ≡ t → counts a day step ≡ true
+    go true p = counts-later a day step (ltb-true (a .day) day p)
+    go false p =
+        let q = both-false (ltb (b .day) (a .day)) (eqb (b .day) (a .day) && ltb (b .minute) (a .minute)) e in
+        let r = counts-true b day step k in
+        let d = ltb-false (b .day) (a .day) (q .0) in
+        let f = ltb-false (a .day) day p in
+        let same : b .day ≡ a .day = omega arith in
+        let m = ltb-false (b .minute) (a .minute) (right-false (eqb (b .day) (a .day)) (ltb (b .minute) (a .minute)) (q .1) (eq-eqb (b .day) (a .day) same)) in
+        let ed : day ≡ a .day = omega arith in
+        let eb : day ≡ b .day = omega arith in
+        let fa : firstCounted a day ≡ a .minute / stepMinutes + 2 = rw ed (first-today a) in
+        let fb : firstCounted b day ≡ b .minute / stepMinutes + 2 = rw eb (first-today b) in
+        counts-from a day step (omega arith) (omega arith)
+
+-- ---- advance
+
+-- where the clock moves, it stands at the moment asked for, which is one and is not before it
+pub advance-moved : (c to x : Clock) → advance c to ≡ Moved x → (x ≡ to) × (isMoment to ≡ true) × (isBefore to c ≡ false)
+unfolding advance
+advance-moved c to x e = go (isMoment to) (isBefore to c) refl refl e
+  where
+    go : (m b : Bool) → isMoment to ≡ m → isBefore to c ≡ b → cond (not m) NoMoment (cond b Back (Moved to)) ≡ Moved x
+        → (x ≡ to) × (isMoment to ≡ true) × (isBefore to c ≡ false)
+    go true false p q e = (cc, p, q)
+    go true true p q e = let z : _≡_ {A = ℕ} 0 1 = cc in absurd (omega arith)
+    go false b p q e = let z : _≡_ {A = ℕ} 0 1 = cc in absurd (omega arith)
+
+-- the same moment is accepted
+pub advance-same : (c : Clock) → isMoment c ≡ true → advance c c ≡ Moved c
+unfolding advance
+advance-same c e =
+    rw (e, le-ltb (c .day) (c .day) (omega arith), eq-eqb (c .day) (c .day) refl, le-ltb (c .minute) (c .minute) (omega arith))
+
+-- a fresh clock stands at a moment
+pub fresh-moment : isMoment freshClock ≡ true
+unfolding stepsOf lastSunday date
+fresh-moment = refl

@@ -1,0 +1,77 @@
+// The clock: "a day and an elapsed minute below 30 times the day's steps", a value whose methods take it and answer the next one.
+ghost use mathlib.Core.Path.{_≡_};
+ghost use Rattle.calendar.specs.Clocks.{freshClock, firstCounted, counts, isMoment, isBefore, advance};
+use crate::steps::STEP_MINUTES;
+use crate::steps::steps_of;
+
+// The steps that the neutral hour takes from the clock's own on: the one that runs, and the next.
+const NEUTRAL_STEPS: u32 = 2;
+
+// A day and the minutes elapsed since its local midnight.
+pub struct Clock {
+    pub day: u32,
+    pub minute: u32,
+}
+
+// What comes of moving the clock.
+pub enum Advance {
+    Moved(Clock),
+    NoMoment,
+    Back,
+}
+
+impl Clock {
+    // The clock of a fresh register.
+    pub fn fresh() -> Self
+        ensures { λ r. ⌜ r ≡ freshClock ⌝ }
+    {
+        Clock { day: 0, minute: 0 }
+    }
+
+    // The first step of a day that counts.
+    pub fn first_counted(self, day: u32) -> u32
+        ensures { λ r. ⌜ r ≡ firstCounted self day ⌝ }
+    {
+        if self.day < day {
+            0
+        } else {
+            self.minute / STEP_MINUTES + NEUTRAL_STEPS
+        }
+    }
+
+    // Whether a step of a day counts.
+    pub fn counts(self, day: u32, step: u32) -> bool
+        ensures { λ r. ⌜ r ≡ counts self day step ⌝ }
+    {
+        let first = self.first_counted(day);
+        (self.day <= day) & (first <= step)
+    }
+
+    // Whether the minute is one of the day's.
+    pub fn is_moment(self) -> bool
+        ensures { λ r. ⌜ r ≡ isMoment self ⌝ }
+    {
+        let steps = steps_of(self.day);
+        self.minute < STEP_MINUTES * steps
+    }
+
+    // Whether this moment is before another.
+    pub fn is_before(self, other: Clock) -> bool
+        ensures { λ r. ⌜ r ≡ isBefore self other ⌝ }
+    {
+        (self.day < other.day) | ((self.day == other.day) & (self.minute < other.minute))
+    }
+
+    // The clock at a later moment, or at the same one.
+    pub fn advanced(self, to: Clock) -> Advance
+        ensures { λ r. ⌜ r ≡ advance self to ⌝ }
+    {
+        if !to.is_moment() {
+            return Advance::NoMoment;
+        }
+        if to.is_before(self) {
+            return Advance::Back;
+        }
+        Advance::Moved(to)
+    }
+}

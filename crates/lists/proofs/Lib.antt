@@ -1,0 +1,2 @@
+-- What is true of tests.
+pub mod Below

@@ -1,0 +1,2 @@
+-- What a test over a range of numbers is.
+pub mod Tests
