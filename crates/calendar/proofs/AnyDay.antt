@@ -12,7 +12,7 @@ use Rattle.calendar.specs.Steps.{longSteps, stepMinutes}
 use Rattle.calendar.specs.Texts.{tens, ones}
 use Rattle.calendar.specs.declared.labels.Label.{Label}
 use Rattle.calendar.specs.declared.labels.Labels.{Labels}
-use Rattle.lists.proofs.Below.{both-true}
+use Rattle.lists.proofs.Tests.{both-true}
 
 -- a time that stands for the first time, and one that stands again
 abbrev plain : ℕ → Label

@@ -10,8 +10,9 @@ use borrow.Author.Tests.{leb-true, eqb-true, eqb-false, eq-eqb, ne-eqb, not-true
 use Rattle.calendar.specs.Dates.{yearCount, dayCount, date, number, monthLength, leapDays, beforeYear, beforeMonth}
 use Rattle.calendar.specs.Steps.{sunday, lastSunday, changeDays}
 use Rattle.calendar.specs.declared.dates.Date.{Date}
-use Rattle.lists.specs.Tests.{every}
-use Rattle.lists.proofs.Below.{below, within, true-of, both-true}
+use Rattle.lists.specs.Tests.{allBelow}
+use Rattle.lists.proofs.Tests.{true-of, both-true}
+use Rattle.lists.proofs.Below.{below, within}
 use Rattle.calendar.proofs.Counting.{at, long, There, leaps, date-number}
 use Rattle.calendar.proofs.Decoding.{number-date}
 
@@ -28,7 +29,7 @@ right : ℕ → Bool
 right y =
     eqb (getD changeDays (2 * y) 0) (lastSundayOf y 3) && eqb (getD changeDays (2 * y + 1) 0) (lastSundayOf y 10)
 
-computed : T (every right 100)
+computed : T (allBelow right 100)
 unfolding right changeDays lastSundayOf number leapDays monthLength beforeYear beforeMonth
 computed = tt
 

@@ -11,7 +11,7 @@ use Rattle.calendar.specs.Steps.{stepMinutes, lastSunday, stepsOf}
 use Rattle.calendar.specs.Clocks.{freshClock, firstCounted, counts, isMoment, isBefore, advance}
 use Rattle.calendar.specs.declared.clock.Clock.{Clock}
 use Rattle.calendar.specs.declared.clock.Advance.the-variants.{Moved, NoMoment, Back}
-use Rattle.lists.proofs.Below.{both-true, both-false, right-false}
+use Rattle.lists.proofs.Tests.{both-true, both-false, right-false}
 
 -- ---- firstCounted
 

@@ -7,8 +7,8 @@ use lib.Dec.{T, leb, ltb, eqb, leb→le, ltb→lt, eqb→eq}
 use borrow.Author.Tests.{le-leb, lt-leb, lt-ltb}
 use Rattle.calendar.specs.Dates.{yearCount, dayCount, leapDays, monthLength, date, beforeYear, beforeMonth, InMonth, number}
 use Rattle.calendar.specs.declared.dates.Date.{Date}
-use Rattle.lists.specs.Tests.{every}
-use Rattle.lists.proofs.Below.{below, within, and-left, and-right}
+use Rattle.lists.specs.Tests.{allBelow}
+use Rattle.lists.proofs.Below.{below, within, T-left, T-right}
 use Rattle.calendar.proofs.Counting.{at, There, leaps, date-number}
 
 -- of these hundred years every fourth is a leap year, the first one too
@@ -40,7 +40,7 @@ inMonth l r m =
 guessed : ℕ → ℕ → Bool
 guessed l r = cond (ltb r (365 + l)) (inMonth l r (monthOf l r)) true
 
-computed : T (every (λ l. every (guessed l) 366) 2)
+computed : T (allBelow (λ l. allBelow (guessed l) 366) 2)
 unfolding guessed inMonth beforeMonth monthLength
 computed = tt
 
@@ -50,13 +50,13 @@ month-guessed l r hl hr =
     let t : T (guessed l r) = within guessed 2 366 computed l r hl (omega arith) in
     let m = monthOf l r in
     let u : T (inMonth l r m) = rw (lt-ltb r (365 + l) hr) at t in
-    let v = and-left (leb 1 m && leb m 12) (leb (beforeMonth l m) r && ltb r (beforeMonth l m + monthLength l m)) u in
-    let w = and-right (leb 1 m && leb m 12) (leb (beforeMonth l m) r && ltb r (beforeMonth l m + monthLength l m)) u in
+    let v = T-left (leb 1 m && leb m 12) (leb (beforeMonth l m) r && ltb r (beforeMonth l m + monthLength l m)) u in
+    let w = T-right (leb 1 m && leb m 12) (leb (beforeMonth l m) r && ltb r (beforeMonth l m + monthLength l m)) u in
     record {
-      from-january = leb→le 1 m (and-left (leb 1 m) (leb m 12) v);
-      to-december = leb→le m 12 (and-right (leb 1 m) (leb m 12) v);
-      from-first = leb→le (beforeMonth l m) r (and-left (leb (beforeMonth l m) r) (ltb r (beforeMonth l m + monthLength l m)) w);
-      to-last = ltb→lt r (beforeMonth l m + monthLength l m) (and-right (leb (beforeMonth l m) r) (ltb r (beforeMonth l m + monthLength l m)) w);
+      from-january = leb→le 1 m (T-left (leb 1 m) (leb m 12) v);
+      to-december = leb→le m 12 (T-right (leb 1 m) (leb m 12) v);
+      from-first = leb→le (beforeMonth l m) r (T-left (leb (beforeMonth l m) r) (ltb r (beforeMonth l m + monthLength l m)) w);
+      to-last = ltb→lt r (beforeMonth l m + monthLength l m) (T-right (leb (beforeMonth l m) r) (ltb r (beforeMonth l m + monthLength l m)) w);
     }
 
 pub month-later : (l r b : ℕ) → l < 2 → r < 365 + l → b ≡ beforeMonth l (r / 32 + 1 + 1) → b ≤ r → InMonth l r (r / 32 + 1 + 1)

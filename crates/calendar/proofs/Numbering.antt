@@ -9,7 +9,7 @@ use lib.ListN.{List·getD-eq-default}
 use borrow.Author.Tests.{le-leb, lt-ltb}
 use Rattle.calendar.specs.Dates.{yearCount, monthCount, dayCount, leapDays, monthLengths, monthLength, beforeYear, beforeMonth, number, valid}
 use Rattle.calendar.specs.declared.dates.Date.{Date}
-use Rattle.lists.proofs.Below.{within, and-left, and-right}
+use Rattle.lists.proofs.Below.{within, T-left, T-right}
 use Rattle.calendar.proofs.Counting.{long, There, leaps}
 use Rattle.calendar.proofs.Decoding.{year-starts}
 
@@ -50,14 +50,14 @@ valid-there x e =
     let b = leb (x .month) monthCount in
     let f = leb 1 (x .day) in
     let g = leb (x .day) (long (x .year) (x .month)) in
-    let m = and-left (a && b) (f && g) (and-right y ((a && b) && (f && g)) t) in
-    let d = and-right (a && b) (f && g) (and-right y ((a && b) && (f && g)) t) in
+    let m = T-left (a && b) (f && g) (T-right y ((a && b) && (f && g)) t) in
+    let d = T-right (a && b) (f && g) (T-right y ((a && b) && (f && g)) t) in
     record {
-      year-known = ltb→lt (x .year) yearCount (and-left y ((a && b) && (f && g)) t);
-      from-january = leb→le 1 (x .month) (and-left a b m);
-      to-december = leb→le (x .month) monthCount (and-right a b m);
-      from-first = leb→le 1 (x .day) (and-left f g d);
-      to-last = leb→le (x .day) (long (x .year) (x .month)) (and-right f g d);
+      year-known = ltb→lt (x .year) yearCount (T-left y ((a && b) && (f && g)) t);
+      from-january = leb→le 1 (x .month) (T-left a b m);
+      to-december = leb→le (x .month) monthCount (T-right a b m);
+      from-first = leb→le 1 (x .day) (T-left f g d);
+      to-last = leb→le (x .day) (long (x .year) (x .month)) (T-right f g d);
     }
 
 pub there-valid : (x : Date) → There x → valid x ≡ true

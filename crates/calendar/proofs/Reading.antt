@@ -10,7 +10,7 @@ use Rattle.calendar.specs.Dates.{number, valid}
 use Rattle.calendar.specs.declared.dates.Date.{Date}
 use Rattle.calendar.specs.declared.texts.Day.the-variants.{Number, NoDay}
 use Rattle.calendar.specs.Texts.{digit, pairOf, readDate, dayOf}
-use Rattle.lists.proofs.Below.{both-true}
+use Rattle.lists.proofs.Tests.{both-true}
 
 pub digits-from : (a b : ℕ) → (digit a && digit b) ≡ true → (48 ≤ a) × (48 ≤ b)
 digits-from a b e =

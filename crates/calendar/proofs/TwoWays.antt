@@ -13,7 +13,8 @@ use Rattle.calendar.specs.Dates.{dayCount, date, number, valid, monthLen
 use Rattle.calendar.specs.Texts.{tens, ones, digit, pairOf, dateText, textOf, readDate, isDate, dayOf}
 use Rattle.calendar.specs.declared.dates.Date.{Date}
 use Rattle.calendar.specs.declared.texts.Day.the-variants.{Number, NoDay}
-use Rattle.lists.proofs.Below.{below, within, true-of, both-true}
+use Rattle.lists.proofs.Tests.{true-of, both-true}
+use Rattle.lists.proofs.Below.{below, within}
 use Rattle.calendar.proofs.Counting.{There, leaps, date-number}
 use Rattle.calendar.proofs.Decoding.{number-date}
 use Rattle.calendar.proofs.Numbering.{number-small, valid-there, there-valid}

@@ -1,2 +1,8 @@
--- What is true of tests.
+-- What is true of tests, searches, places and sums.
+pub mod Tests
 pub mod Below
+pub mod Searches
+pub mod Parts
+pub mod All
+pub mod Sums
+pub mod Places

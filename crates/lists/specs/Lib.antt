@@ -1,2 +1,4 @@
--- What a test over a range of numbers is.
+-- Tests, searches and sums over lists and over the numbers below a bound.
 pub mod Tests
+pub mod Searches
+pub mod Sums

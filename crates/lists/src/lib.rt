@@ -1,1 +1,2 @@
-// Tests over ranges of numbers. There is no code here: the definitions are in specs/, their laws in proofs/.
+// Tests, searches and sums over lists and over the numbers below a bound. The definitions are in specs/, what is true of them
+// in proofs/.

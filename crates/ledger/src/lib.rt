@@ -1,0 +1,37 @@
+// What calls of the register answer. The ledger of document 01 is in specs/, what holds of every list of calls in proofs/.
+use notification::Notification;
+use refusals::Refusal;
+use refusals::Verdict;
+
+// What a call of demand 3's list answers.
+pub enum Answer {
+    // The clock moved.
+    Moved,
+    // How many actors, categories or loads there now are.
+    Held(u32),
+    // The id, the status and the from-step of the record that a filing made.
+    Filed(u32, u8, u32),
+    Refused(Refusal),
+}
+
+// What the engagement call answers.
+pub enum Engaged {
+    Power(u32),
+    Refused(Refusal),
+}
+
+// What the record call answers: the whole record, or a refusal beside a blank one.
+pub struct Shown {
+    pub verdict: Verdict,
+    pub submitter: [u8; 16],
+    pub notification: Notification,
+    pub status: u8,
+    pub from: u32,
+    pub until: u32,
+}
+
+// What the history call answers: how many ids it put into the lent buffer.
+pub enum Listed {
+    Count(u32),
+    Refused(Refusal),
+}

@@ -1,0 +1,98 @@
+-- Names, powers and files, read by the definitions: what is accepted, and what each damage is refused by.
+use mathlib.Core.Path.{_≡_, refl}
+use mathlib.Core.Bool.{true, false}
+use mathlib.Core.List.{List, [], _∷_, _++_}
+use Prim.Native.Nat.{ℕ, _-_}
+use Prim.Native.Char.{code}
+use Prim.Native.String.{String}
+use lib.ListN.{length, take, set, replicate}
+use Rattle.lists.specs.Searches.{same, firstFrom}
+use Rattle.calendar.specs.Dates.{date, tomorrow, number, valid, monthLength, leapDays, beforeYear, beforeMonth}
+use Rattle.calendar.specs.Texts.{pairOf, textOf, dayOf}
+use Rattle.calendar.specs.Steps.{lastSunday, stepsOf}
+use Rattle.calendar.specs.Labels.{labelOf}
+use Rattle.refusals.specs.declared.Refusal.the-variants.{Input}
+use Rattle.refusals.specs.declared.InputRefusal.the-variants.{Body, Header, Differs, Lines, Labels, Power, Zeros}
+use Rattle.refusals.specs.declared.Verdict.{Verdict}
+use Rattle.refusals.specs.declared.Verdict.the-variants.{No}
+use Rattle.notification.specs.Forms.{isCode, isCategory, categoryText, digits, inPlaces, allZero}
+use Rattle.notification.specs.Writing.{nameOf, headerOf, labelsText, linesOf, bodyOf, formed}
+use Rattle.notification.specs.Reading.{keyIn, nameKey, headerKey, isName, isHeader, linesIn, isBody, headLine, stepLines, hasLabels, restOf, valueFrom, isPower, firstBad, powersIn, fileTests, noteIn, accepted, readFile}
+use Rattle.notification.specs.declared.Notification.{Notification}
+use Rattle.notification.proofs.Lines.{joined}
+
+-- the bytes of a text
+abbrev text : String → List ℕ
+text Prim.Native.String.[] = []
+text (Prim.Native.String._∷_ c s) = code c ∷ text s
+
+abbrev theName : List ℕ
+theName = text "NER_17X100A100R00000_17X100A100R00001_20210120_13120C.csv"
+
+-- the day's 48 powers, and the lines of the file that they give
+abbrev note : Notification
+note = record { key = nameKey theName; steps = 48; powers = 15 ∷ 15 ∷ 20 ∷ (replicate 45 30 ++ replicate 2 0) }
+
+abbrev theLines : List (List ℕ)
+theLines = linesIn (bodyOf note)
+
+-- the lines with another one at a place, the header being 1
+abbrev withLine : ℕ → String → List (List ℕ) → List (List ℕ)
+withLine place l ls = set ls (place - 1) (text l)
+
+-- what a body comes to under that name
+abbrev answer : List ℕ → Verdict
+answer body = readFile theName body .verdict
+
+abbrev refusal : List (List ℕ) → Verdict
+refusal ls = answer (joined ls)
+
+pub record Examples : Type 0 where
+  pub names : (isName theName ≡ true) × (isName (text "NER_17X100A100R00000_17X100A100R00001_20210120_13120.csv") ≡ true)
+  pub wrong-prefix : isName (text "NEB_17X100A100R00000_17X100A100R00001_20210120_13120C.csv") ≡ false
+  pub wrong-date : isName (text "NER_17X100A100R00000_17X100A100R00001_20210230_13120C.csv") ≡ false
+  pub four-digits : isName (text "NER_17X100A100R00000_17X100A100R00001_20210120_1312.csv") ≡ false
+  pub wrong-letter : isName (text "NER_17X100A100R00000_17X100A100R00001_20210120_13120D.csv") ≡ false
+  pub lower-case : isName (text "NER_17x100A100R00000_17X100A100R00001_20210120_13120C.csv") ≡ false
+  pub too-long : isName (text "NER_17X100A100R00000_17X100A100R00001_20210120_13120CC.csv") ≡ false
+  pub powers : (isPower (text "0;") ≡ true) × (isPower (text "9999;") ≡ true)
+  pub needless-zeros : (isPower (text "015;") ≡ false) × (isPower (text "00;") ≡ false)
+  pub no-powers : (isPower (text "+5;") ≡ false) × (isPower (text "10000;") ≡ false) × (isPower (text ";") ≡ false)
+  pub wrong-ends : (isPower (text "5") ≡ false) × (isPower (text "5;;") ≡ false) × (isPower (text "5 ;") ≡ false)
+  pub written : (nameOf (note .key) ≡ theName) × (take 2 theLines ≡ text "17X100A100R00000;17X100A100R00001;20210120;13120C;" ∷ text "00:00;00:30;15;" ∷ [])
+  pub read : readFile theName (bodyOf note) ≡ accepted note
+  pub no-last-LF : answer (take (length (bodyOf note) - 1) (bodyOf note)) ≡ No (Input Body 0)
+  pub two-last-LF : answer (bodyOf note ++ 10 ∷ []) ≡ No (Input Lines 0)
+  pub no-header : refusal (withLine 1 "17X100A100R00000;17X100A100R00001;20210120;1312;" theLines) ≡ No (Input Header 1)
+  pub other-header : refusal (withLine 1 "17X100A100R00000;17X100A100R00001;20210120;13120;" theLines) ≡ No (Input Differs 1)
+  pub wrong-label : refusal (withLine 5 "01:30;02:30;30;" theLines) ≡ No (Input Labels 5)
+  pub count-before-label : refusal (take 48 (withLine 5 "01:30;02:30;30;" theLines)) ≡ No (Input Lines 0)
+  pub power-before-label : refusal (withLine 3 "00:30;01:00;015;" (withLine 5 "01:30;02:30;30;" theLines)) ≡ No (Input Power 3)
+  pub all-zero : answer (bodyOf (record { key = nameKey theName; steps = 48; powers = replicate 50 0 })) ≡ No (Input Zeros 0)
+
+pub examples : Examples
+unfolding readFile fileTests noteIn isName isHeader nameKey headerKey keyIn nameOf headerOf bodyOf linesOf labelsText formed isCode isCategory categoryText same textOf dayOf date tomorrow number valid monthLength leapDays beforeYear beforeMonth pairOf stepsOf lastSunday labelOf linesIn isBody headLine stepLines hasLabels restOf valueFrom isPower digits firstBad firstFrom powersIn inPlaces allZero joined
+examples =
+    record {
+      names = (refl, refl);
+      wrong-prefix = refl;
+      wrong-date = refl;
+      four-digits = refl;
+      wrong-letter = refl;
+      lower-case = refl;
+      too-long = refl;
+      powers = (refl, refl);
+      needless-zeros = (refl, refl);
+      no-powers = (refl, refl, refl);
+      wrong-ends = (refl, refl, refl);
+      written = (refl, refl);
+      read = refl;
+      no-last-LF = refl;
+      two-last-LF = refl;
+      no-header = refl;
+      other-header = refl;
+      wrong-label = refl;
+      count-before-label = refl;
+      power-before-label = refl;
+      all-zero = refl;
+    }

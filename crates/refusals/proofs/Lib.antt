@@ -1,0 +1,2 @@
+-- What is true of lists of tests.
+pub mod Tests
