@@ -11,7 +11,8 @@ use lib.ListN.{length, getD, length-map}
 use borrow.Author.Tests.{eqb-true, eqb-false, eq-eqb, ne-eqb}
 use Rattle.lists.specs.Searches.{same}
 use Rattle.lists.proofs.Places.{textAt, Once, More, place-map, place-kept, place-some, text-same, text-more}
-use Rattle.ledger.specs.Ledger.{Actor, actorAt, categoryAt}
+use Rattle.ledger.specs.declared.Actor.{Actor}
+use Rattle.ledger.specs.Ledger.{actorAt, categoryAt}
 use Rattle.ledger.specs.Reading.{isAmong}
 
 -- the codes of actors, in the order of their enrolment

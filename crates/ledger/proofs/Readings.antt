@@ -12,7 +12,8 @@ use Rattle.lists.proofs.Places.{Once, once-more}
 use Rattle.calendar.specs.Steps.{stepsOf}
 use Rattle.ledger.specs.Call.{Call, enrolActor, enrolCategory, advance}
 use Rattle.ledger.specs.Ledger as Held
-use Rattle.ledger.specs.Ledger.{Actor, Load, Ledger, fresh, actorAt, categoryAt, loadIs, loaded, approved, power}
+use Rattle.ledger.specs.declared.Actor.{Actor}
+use Rattle.ledger.specs.Ledger.{Load, Ledger, fresh, actorAt, categoryAt, loadIs, loaded, approved, power}
 use Rattle.ledger.specs.Calls.{effect}
 use Rattle.ledger.specs.Reading.{Event, actorsOf, categoriesOf, clockOf, loadedOf, approvedOf, powerOf}
 use Rattle.ledger.specs.Whole.{keyBy}

@@ -12,7 +12,8 @@ use Rattle.notification.specs.Reading.{readFile}
 use Rattle.notification.specs.Forms.{inPlaces}
 use Rattle.notification.specs.declared.Notification.{Notification}
 use Rattle.ledger.specs.Call.{Call, enrolActor, enrolCategory, load, file, advance}
-use Rattle.ledger.specs.Ledger.{Actor, Load, Ledger, actorAt, categoryAt}
+use Rattle.ledger.specs.declared.Actor.{Actor}
+use Rattle.ledger.specs.Ledger.{Load, Ledger, actorAt, categoryAt}
 use Rattle.ledger.specs.Filing.{filingTests}
 use Rattle.ledger.specs.Calls.{Outcome, actorTests, categoryTests, loadTests, advanceTests, moment, verdictOf, withActor, withCategory, withLoad, withClock, fileNote, effect, refusedBy, stepNote, step}
 use Rattle.ledger.proofs.Passed.{FilingOk, filing-ok, ActorOk, actor-ok, CategoryOk, category-ok, LoadOk, load-ok, AdvanceOk, advance-ok}

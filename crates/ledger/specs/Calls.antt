@@ -18,7 +18,8 @@ use Rattle.notification.specs.Forms.{isCode, isCategory, powerEnd, inPlaces}
 use Rattle.notification.specs.Reading.{readFile}
 use Rattle.notification.specs.declared.Notification.{Notification}
 use Rattle.ledger.specs.Call.{Call, enrolActor, enrolCategory, load, file, advance}
-use Rattle.ledger.specs.Ledger.{Actor, Load, Key, Rec, Ledger, actorPlaces, categoryPlaces, loadPlaces, actorAt, categoryAt, hasLoad}
+use Rattle.ledger.specs.declared.Actor.{Actor}
+use Rattle.ledger.specs.Ledger.{Load, Key, Rec, Ledger, actorPlaces, categoryPlaces, loadPlaces, actorAt, categoryAt, hasLoad}
 use Rattle.ledger.specs.Filing.{keyOf, noActor, noCategory, filingTests, pairs, statusBy, nextId, filed}
 use Rattle.ledger.specs.declared.Answer.{Answer}
 use Rattle.ledger.specs.declared.Answer.the-variants.{Moved, Held, Filed, Refused}

@@ -16,7 +16,8 @@ use Rattle.refusals.specs.declared.StateRefusal.the-variants.{CederUnknown, Acq
 use Rattle.notification.specs.Forms.{categoryText, places}
 use Rattle.notification.specs.declared.Notification.{Notification}
 use Rattle.ledger.specs.Statuses.{created, answered, deleted, validated, updated, obsolete}
-use Rattle.ledger.specs.Ledger.{Actor, Load, Key, Rec, Ledger, recordPlaces, actorAt, categoryAt, hasLoad, approved, underKey, power, gained, ceded}
+use Rattle.ledger.specs.declared.Actor.{Actor}
+use Rattle.ledger.specs.Ledger.{Load, Key, Rec, Ledger, recordPlaces, actorAt, categoryAt, hasLoad, approved, underKey, power, gained, ceded}
 
 -- THE TESTS
 

@@ -9,13 +9,8 @@ use Rattle.lists.specs.Searches.{same, some, placeOf}
 use Rattle.lists.specs.Sums.{sumOver}
 use Rattle.calendar.specs.Clocks.{freshClock}
 use Rattle.calendar.specs.declared.clock.Clock.{Clock}
+use Rattle.ledger.specs.declared.Actor.{Actor}
 use Rattle.ledger.specs.Statuses.{validated, updated}
-
--- an actor has a code and a contract from a first to a last day, both included
-pub record Actor : Type 0 where
-  pub code : List ℕ
-  pub first : ℕ
-  pub last : ℕ
 
 -- a load gives one actor, category and day an approved power and one loaded power per step
 pub record Load : Type 0 where

@@ -3,6 +3,13 @@ use notification::Notification;
 use refusals::Refusal;
 use refusals::Verdict;
 
+// An actor: its code and its contract, from a first to a last day, both included.
+pub struct Actor {
+    pub code: [u8; 16],
+    pub first: u32,
+    pub last: u32,
+}
+
 // What a call of demand 3's list answers.
 pub enum Answer {
     // The clock moved.
