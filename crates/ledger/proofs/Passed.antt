@@ -10,6 +10,7 @@ use borrow.Author.Tests.{ltb-true, ltb-false, leb-true, eqb-true, eqb-false, not
 use Rattle.lists.specs.Searches.{every, firstFrom}
 use Rattle.lists.proofs.Tests.{both-true}
 use Rattle.lists.proofs.Searches.{first-before}
+use Rattle.calendar.specs.Dates.{dayCount}
 use Rattle.calendar.specs.Steps.{stepsOf}
 use Rattle.calendar.specs.Clocks.{firstCounted, isMoment, isBefore}
 use Rattle.calendar.specs.declared.clock.Clock.{Clock}
@@ -21,7 +22,7 @@ use Rattle.notification.specs.Forms.{isCode, isCategory, powerEnd}
 use Rattle.notification.specs.declared.Notification.{Notification}
 use Rattle.ledger.specs.Ledger.{Key, Ledger, actorPlaces, categoryPlaces, loadPlaces, recordPlaces, actorAt, categoryAt, hasLoad, approved, power, gained, ceded}
 use Rattle.ledger.specs.Filing.{keyOf, inContract, reach, cederBelow, acquirerAbove, cederAbove, acquirerBelow, filingTests}
-use Rattle.ledger.specs.Calls.{dayEnd, actorTests, categoryTests, loadRanged, loadable, loadTests, advanceTests}
+use Rattle.ledger.specs.Calls.{actorTests, categoryTests, loadRanged, loadable, loadTests, advanceTests}
 
 -- the test at a place of an accepted call is not met
 unmet : (ts : List Test) → firstMet ts ≡ Pass → (i : ℕ) → i < length ts → getD ts i (true, state ActorUnknown) .0 ≡ false
@@ -111,8 +112,8 @@ filing-ok l submitter n e =
 
 pub record ActorOk (l : Ledger) (code : List ℕ) (first last : ℕ) : Type 0 where
   pub form : isCode code ≡ true
-  pub first-day : first < dayEnd
-  pub last-day : last < dayEnd
+  pub first-day : first < dayCount
+  pub last-day : last < dayCount
   pub ordered : first ≤ last
   pub new : length (l .actors) ≤ actorAt (l .actors) code
   pub room : length (l .actors) < actorPlaces
@@ -121,12 +122,12 @@ pub actor-ok : (l : Ledger) (code : List ℕ) (first last : ℕ) → firstMet (a
 unfolding actorTests
 actor-ok l code first last e =
     let t = unmet (actorTests l code first last) e in
-    let r = both-true (ltb first dayEnd && ltb last dayEnd) (leb first last) (not-false _ (t 1 (omega arith))) in
-    let d = both-true (ltb first dayEnd) (ltb last dayEnd) (r .0) in
+    let r = both-true (ltb first dayCount && ltb last dayCount) (leb first last) (not-false _ (t 1 (omega arith))) in
+    let d = both-true (ltb first dayCount) (ltb last dayCount) (r .0) in
     record {
       form = not-false _ (t 0 (omega arith));
-      first-day = ltb-true first dayEnd (d .0);
-      last-day = ltb-true last dayEnd (d .1);
+      first-day = ltb-true first dayCount (d .0);
+      last-day = ltb-true last dayCount (d .1);
       ordered = leb-true first last (r .1);
       new = ltb-false (actorAt (l .actors) code) (length (l .actors)) (not-true _ (not-false _ (t 2 (omega arith))));
       room = ltb-true (length (l .actors)) actorPlaces (not-false _ (t 3 (omega arith)));
@@ -148,7 +149,7 @@ category-ok l text e =
     }
 
 pub record LoadOk (l : Ledger) (actor category : List ℕ) (day most : ℕ) (ps : List ℕ) : Type 0 where
-  pub in-range : day < dayEnd
+  pub in-range : day < dayCount
   pub powered : most < powerEnd
   pub per-step : length ps ≡ stepsOf day
   pub below : every (λ p. leb p most) ps ≡ true
@@ -165,11 +166,11 @@ load-ok l actor category day most ps e =
     let a = actorAt (l .actors) actor in
     let z = categoryAt (l .categories) category in
     let t = unmet (loadTests l actor category day most ps) e in
-    let r = both-true (ltb day dayEnd && ltb most powerEnd && eqb (length ps) (stepsOf day)) (every (λ p. leb p most) ps) (not-false _ (t 0 (omega arith))) in
-    let c = both-true (ltb day dayEnd && ltb most powerEnd) (eqb (length ps) (stepsOf day)) (r .0) in
-    let d = both-true (ltb day dayEnd) (ltb most powerEnd) (c .0) in
+    let r = both-true (ltb day dayCount && ltb most powerEnd && eqb (length ps) (stepsOf day)) (every (λ p. leb p most) ps) (not-false _ (t 0 (omega arith))) in
+    let c = both-true (ltb day dayCount && ltb most powerEnd) (eqb (length ps) (stepsOf day)) (r .0) in
+    let d = both-true (ltb day dayCount) (ltb most powerEnd) (c .0) in
     record {
-      in-range = ltb-true day dayEnd (d .0);
+      in-range = ltb-true day dayCount (d .0);
       powered = ltb-true most powerEnd (d .1);
       per-step = eqb-true (length ps) (stepsOf day) (c .1);
       below = r .1;

@@ -1,5 +1,6 @@
 -- The winter case, run by the definitions: a notification is deleted by its own party, the other party files the deleted
--- powers, and the exchange that comes of it is replaced by powers 9 MW lower.
+-- powers, and the exchange that comes of it is replaced by powers 9 MW lower. A register that pairs the deleted 40, the
+-- nearest record in time with the same powers, would move 40 at the third filing, where the ceder's own word is 31.
 use mathlib.Core.Path.{_≡_, refl}
 use mathlib.Core.List.{List, [], _∷_, map}
 use Prim.Native.Nat.{ℕ, _+_, _-_}

@@ -3,27 +3,31 @@
 use mathlib.Core.Path.{_≡_, refl}
 use mathlib.Core.Bool.{true, false}
 use mathlib.Core.List.{List, [], _∷_, _++_}
-use Prim.Native.Nat.{ℕ}
+use Prim.Native.Nat.{ℕ, _+_}
 use lib.Dec.{lit<}
+use lib.ListN.{replicate}
 use Rattle.lists.specs.Searches.{same, placeOf, firstFrom}
 use Rattle.calendar.specs.Dates.{date, tomorrow, number, valid, monthLength, leapDays, beforeYear, beforeMonth}
 use Rattle.calendar.specs.Steps.{stepsOf, lastSunday}
 use Rattle.calendar.specs.Texts.{pairOf, textOf, dayOf}
 use Rattle.calendar.specs.Labels.{labelOf}
 use Rattle.calendar.specs.Clocks.{firstCounted, counts}
+use Rattle.refusals.specs.declared.Refusal.the-variants.{State}
+use Rattle.refusals.specs.declared.StateRefusal.the-variants.{LoadDay}
 use Rattle.notification.specs.Forms.{isCode, isCategory, categoryText, digits, inPlaces, allZero}
 use Rattle.notification.specs.Writing.{nameOf, headerOf, labelsText, linesOf, bodyOf, formed}
 use Rattle.notification.specs.Reading.{keyIn, nameKey, headerKey, isName, isHeader, linesIn, isBody, headLine, stepLines, hasLabels, restOf, valueFrom, isPower, firstBad, powersIn, fileTests, noteIn, readFile}
 use Rattle.ledger.specs.Statuses.{created, validated}
-use Rattle.ledger.specs.Call.{Call, enrolCategory, file, advance}
+use Rattle.ledger.specs.Call.{Call, enrolActor, enrolCategory, load, file, advance}
 use Rattle.ledger.specs.Ledger.{Ledger, fresh, actorAt, categoryAt, hasLoad, loaded, approved, moved, power, acquired, ceded, gained, engagement}
 use Rattle.ledger.specs.Filing.{keyOf, cederBelow, acquirerAbove, cederAbove, acquirerBelow, filingTests, samePowers, pairs, obsoletes, nextId, filed}
 use Rattle.ledger.specs.Calls.{actorTests, categoryTests, loadRanged, loadable, loadTests, advanceTests, verdictOf, fileNote, effect, stepNote, step}
 use Rattle.ledger.specs.Asking.{engagedAt}
 use Rattle.ledger.specs.Reading.{Event, events, actorsOf, categoriesOf, clockOf, loadedOf, approvedOf, powerOf, acquiredOf, cededOf}
 use Rattle.ledger.specs.Whole.{Asked, after, answersTo}
-use Rattle.ledger.specs.declared.Answer.the-variants.{Moved, Held, Filed}
-use Rattle.ledger.proofs.Examples.{eic, first, second, category, plainDay, enters, noteWith, note}
+use Rattle.ledger.specs.declared.Answer.the-variants.{Moved, Held, Filed, Refused}
+use Rattle.ledger.proofs.Whole.{demand3}
+use Rattle.ledger.proofs.Examples.{eic, first, second, third, category, plainDay, enters, noteWith, note}
 
 -- a call that files a notification, by its name and its body
 unfoldable pub filing : List ℕ → ℕ → Call
@@ -32,7 +36,7 @@ filing by p = file by (nameOf (note first second plainDay p .key)) (bodyOf (note
 unfoldable pub calls : List Call
 calls =
     enrolCategory category ∷ enters first plainDay 60 100 ++ enters second plainDay 0 100
-    ++ (filing first 40 ∷ filing second 40 ∷ advance plainDay 942 ∷ filing first 31 ∷ [])
+    ++ (enrolActor third 0 36524 ∷ filing first 40 ∷ filing second 40 ∷ advance plainDay 942 ∷ filing first 31 ∷ [])
 
 unfoldable pub next : Call
 next = filing second 31
@@ -50,7 +54,7 @@ pair l s = (engagedAt l first category plainDay s, engagedAt l second category p
 pub record Met : Type 0 where
   -- every call of the list is accepted
   pub accepted : answersTo fresh calls ≡
-      Held 1 ∷ Held 1 ∷ Held 1 ∷ Held 2 ∷ Held 2 ∷ Filed 1 created 0 ∷ Filed 2 validated 0 ∷ Moved ∷ Filed 3 created 33 ∷ []
+      Held 1 ∷ Held 1 ∷ Held 1 ∷ Held 2 ∷ Held 2 ∷ Held 3 ∷ Filed 1 created 0 ∷ Filed 2 validated 0 ∷ Moved ∷ Filed 3 created 33 ∷ []
   -- what is asked about is enrolled, and the step is one of the day
   pub asked : Asked told first category plainDay 20
   pub asked-other : Asked told second category plainDay 20
@@ -66,6 +70,8 @@ pub record Met : Type 0 where
   pub still : pair (step reached next .ledger) 20 ≡ (20, 40)
   pub still-counts : counts (clockOf (record { call = next; answer = step reached next .answer } ∷ told)) plainDay 33 ≡ true
   pub changed : (pair reached 33 ≡ (20, 40)) × (pair (step reached next .ledger) 33 ≡ (29, 31))
+  -- a load for the clock's own day would change steps that no longer count: it is refused by 39
+  pub load-refused : step reached (load third category plainDay 100 (replicate 48 50)) .answer ≡ Refused (State LoadDay 0)
   -- a call that moves the clock stops steps too
   pub stopped : counts (clockOf (record { call = advance plainDay 1068; answer = step reached (advance plainDay 1068) .answer } ∷ told)) plainDay 36 ≡ false
 
@@ -85,5 +91,13 @@ met =
       still = refl;
       still-counts = refl;
       changed = (refl, refl);
+      load-refused = refl;
       stopped = refl;
     }
+
+-- the theorem at this list and this call
+pub applied : (engagedAt reached first category plainDay 20 + cededOf told first category plainDay 20 ≡ loadedOf told first category plainDay 20 + acquiredOf told first category plainDay 20)
+    × (engagedAt (step reached next .ledger) first category plainDay 20 ≡ engagedAt reached first category plainDay 20)
+unfolding told reached
+applied =
+    (demand3 calls .engaged first category plainDay 20 (met .asked), demand3 calls .frozen next first category plainDay 20 (met .asked) (met .no-longer-counts))

@@ -5,6 +5,7 @@ use Prim.Native.Nat.{ℕ, zero, suc, _+_, _-_}
 use lib.Dec.{leb, ltb, eqb}
 use lib.ListN.{length, getD}
 use Rattle.lists.specs.Searches.{every}
+use Rattle.calendar.specs.Dates.{dayCount}
 use Rattle.calendar.specs.Steps.{stepsOf}
 use Rattle.calendar.specs.Clocks.{firstCounted, isMoment, isBefore}
 use Rattle.calendar.specs.declared.clock.Clock.{Clock}
@@ -29,10 +30,6 @@ pub record Outcome : Type 0 where
   pub ledger : Ledger
   pub answer : Answer
 
--- the number after the last day
-abbrev pub dayEnd : ℕ
-dayEnd = 36525
-
 -- ENROL AN ACTOR: 9, 10, 37, 36
 
 -- a code to enrol has the form of a code
@@ -42,7 +39,7 @@ enrolable code = isCode code
 unfoldable pub actorTests : Ledger → List ℕ → ℕ → ℕ → List Test
 actorTests l code first last =
     (not (enrolable code), input Form)
-    ∷ (not (ltb first dayEnd && ltb last dayEnd && leb first last), input Range)
+    ∷ (not (ltb first dayCount && ltb last dayCount && leb first last), input Range)
     ∷ (not (noActor l (actorAt (l .actors) code)), state There)
     ∷ (not (ltb (length (l .actors)) actorPlaces), state Full)
     ∷ []
@@ -60,7 +57,7 @@ categoryTests l text =
 -- the day and the approved power are in range, there is one power per step of the day, none above the approved one
 unfoldable pub loadRanged : ℕ → ℕ → List ℕ → Bool
 loadRanged day most ps =
-    ltb day dayEnd && ltb most powerEnd && eqb (length ps) (stepsOf day) && every (λ p. leb p most) ps
+    ltb day dayCount && ltb most powerEnd && eqb (length ps) (stepsOf day) && every (λ p. leb p most) ps
 
 -- the load's day is after the clock's
 unfoldable pub loadable : Clock → ℕ → Bool

@@ -129,16 +129,6 @@ text-new xs x h =
     let k = rw (same-refl x) at e in
     omega arith
 
--- a text that stands in the list is among its entries
-pub text-among : (xs : List (List ℕ)) (p : ℕ) → p < length xs → some (λ y. same y (getD xs p [])) xs ≡ true
-text-among [] p h = absurd (omega arith)
-text-among (x ∷ xs) zero h = rw (same-refl x)
-text-among (x ∷ xs) (suc p) h = go (same x (getD xs p [])) (text-among xs p (omega arith))
-  where
-    go : (b : Bool) → some (λ y. same y (getD xs p [])) xs ≡ true → (b || some (λ y. same y (getD xs p [])) xs) ≡ true
-    go true e = refl
-    go false e = e
-
 -- ---- each text once: it is found at its own place
 
 abbrev pub Once : List (List ℕ) → Type 0

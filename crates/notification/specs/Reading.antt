@@ -5,6 +5,7 @@ use Prim.Native.Nat.{ℕ, zero, suc, _+_, _-_, _*_, _/_, _%_}
 use lib.Dec.{leb, ltb, eqb}
 use lib.ListN.{length, getD, take, drop, replicate}
 use Rattle.lists.specs.Searches.{same, firstFrom}
+use Rattle.calendar.specs.Dates.{dayCount}
 use Rattle.calendar.specs.Texts.{dayOf}
 use Rattle.calendar.specs.Steps.{stepsOf}
 use Rattle.calendar.specs.declared.texts.Day.{Day}
@@ -26,7 +27,7 @@ use Rattle.notification.specs.declared.Reading.{Reading}
 -- the number of the day that eight digits stand for, and one past the last day where they stand for none
 abbrev pub dayNumber : Day → ℕ
 dayNumber (Number n) = n
-dayNumber NoDay = 36525
+dayNumber NoDay = dayCount
 
 -- the key that stands in `ceder.acquirer.date.category`, by the places of its parts
 unfoldable pub keyIn : List ℕ → Key
@@ -47,7 +48,7 @@ headerKey h = keyIn (take (length h - 1) h)
 
 -- each part valid
 abbrev pub validKey : Key → Bool
-validKey k = formed k && ltb (k .day) 36525
+validKey k = formed k && ltb (k .day) dayCount
 
 -- a name is of that form: its parts are valid, and it is the name that they give
 unfoldable pub isName : List ℕ → Bool

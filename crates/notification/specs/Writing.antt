@@ -6,6 +6,7 @@ use Prim.Native.Nat.{ℕ, zero, suc, _+_, _-_, _*_, _/_, _%_}
 use lib.Dec.{leb, ltb, eqb}
 use lib.ListN.{length, getD, take, drop}
 use Rattle.lists.specs.Searches.{every}
+use Rattle.calendar.specs.Dates.{dayCount}
 use Rattle.calendar.specs.Texts.{textOf}
 use Rattle.calendar.specs.Steps.{stepsOf}
 use Rattle.calendar.specs.Labels.{labelOf}
@@ -61,7 +62,7 @@ formed k = isCode (k .ceder) && isCode (k .acquirer) && isCategory (categoryText
 -- 10: the day, the count of steps or a power is outside its range; a power past the day's steps is
 unfoldable pub ranged : Notification → Bool
 ranged n =
-    ltb (n .key .day) 36525 && eqb (n .steps) (stepsOf (n .key .day)) &&
+    ltb (n .key .day) dayCount && eqb (n .steps) (stepsOf (n .key .day)) &&
     every (λ p. ltb p powerEnd) (n .powers) && allZero (drop (n .steps) (n .powers))
 
 -- what a notification to write is refused by: 9, 10, 8
