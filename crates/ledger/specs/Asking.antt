@@ -64,6 +64,9 @@ recordTests l asker id =
 abbrev pub codeAt : Ledger → ℕ → List ℕ
 codeAt l a = getD (l .actors) a nobody .code
 
+abbrev pub categoryOf : Ledger → ℕ → List ℕ
+categoryOf l z = cond (noCategory l z) (replicate 6 0) (sixBytes (getD (l .categories) z []))
+
 abbrev pub noteOf : Ledger → Rec → Notification
 noteOf l r =
     record {
@@ -71,7 +74,7 @@ noteOf l r =
           record {
             ceder = codeAt l (r .key .ceder);
             acquirer = codeAt l (r .key .acquirer);
-            category = sixBytes (getD (l .categories) (r .key .category) []);
+            category = categoryOf l (r .key .category);
             day = r .key .day;
           };
       steps = stepsOf (r .key .day);

@@ -3,7 +3,7 @@ use mathlib.Core.Bool.{Bool, true, false, cond, not, _&&_, _||_}
 use mathlib.Core.List.{List, [], _∷_, map}
 use Prim.Native.Nat.{ℕ, zero, suc, _+_, _-_}
 use lib.Dec.{leb, ltb, eqb}
-use lib.ListN.{length, getD}
+use lib.ListN.{length, getD, replicate}
 use Rattle.lists.specs.Tests.{allBelow}
 use Rattle.lists.specs.Searches.{some, firstFrom}
 use Rattle.calendar.specs.Steps.{stepsOf}
@@ -38,8 +38,9 @@ noActor l a = not (ltb a (length (l .actors)))
 abbrev pub noCategory : Ledger → ℕ → Bool
 noCategory l z = not (ltb z (length (l .categories)))
 
+-- what stands at such a place
 abbrev pub nobody : Actor
-nobody = record { code = []; first = 0; last = 0 }
+nobody = record { code = replicate 16 0; first = 0; last = 0 }
 
 -- a day is in the contract of the actor at a place
 abbrev pub inContract : Ledger → ℕ → ℕ → Bool
