@@ -1,14 +1,14 @@
 -- Texts and the places where a list has them: a text that is there is found, and keeps its place when another is put at the end.
 use mathlib.Core.Path.{_≡_, refl, sym, _∙_, ap, ap₂}
-use mathlib.Core.Bool.{Bool, true, false, cond, _||_}
+use mathlib.Core.Bool.{Bool, true, false, cond, _&&_, _||_}
 use mathlib.Core.List.{List, [], _∷_, _++_, map}
 use mathlib.Core.Logic.{_⊎_, inl, inr}
 use Prim.Native.Nat.{ℕ, zero, suc, _+_, _≤_, _<_}
 use native.Mathlib.Omega.{arith}
 use native.Mathlib.Decide.{ℕ-discrete}
 use lib.Dec.{eqb, ltb}
-use lib.ListN.{length, getD, length-append, List·getD-append}
-use lib.Seq.{getD-append-seam}
+use lib.ListN.{length, getD, take, length-append, List·getD-append}
+use lib.Seq.{getD-append-seam, getD-take, length-take-le}
 use borrow.Author.Tests.{ltb-true, ltb-false, eqb-true, eq-eqb, ne-eqb}
 use Rattle.lists.specs.Searches.{same, some, placeOf}
 use Rattle.lists.proofs.Tests.{both-true}
@@ -144,4 +144,68 @@ once-more xs x o new p h = go (ℕ-discrete p (length xs))
         let same-place = o p k in
         rw (List·getD-append) (place-kept (λ z. same z (getD xs p [])) xs (x ∷ []) (omega arith) ∙ same-place)
 
--- ---- sums over the entries and over their places
+-- ---- a search entry by entry: none before i passes
+
+module _ {A : Type 0} (p : A → Bool) where
+  pub place-here : (xs : List A) (i : ℕ) (d : A) → i < length xs → i ≤ placeOf p xs → p (getD xs i d) ≡ true → i ≡ placeOf p xs
+  unfolding placeOf
+  place-here [] i d h l e = absurd (omega arith)
+  place-here (x ∷ xs) zero d h l e = rw e
+  place-here (x ∷ xs) (suc i) d h l e = go (p x) l (place-here xs i d (omega arith))
+    where
+      go : (b : Bool) → suc i ≤ cond b 0 (suc (placeOf p xs)) →
+          (i ≤ placeOf p xs → p (getD xs i d) ≡ true → i ≡ placeOf p xs) →
+          suc i ≡ cond b 0 (suc (placeOf p xs))
+      go true l ih = absurd (omega arith)
+      go false l ih = ap suc (ih (omega arith) e)
+
+  pub place-past : (xs : List A) (i : ℕ) (d : A) → i < length xs → i ≤ placeOf p xs → p (getD xs i d) ≡ false → i < placeOf p xs
+  unfolding placeOf
+  place-past [] i d h l e = absurd (omega arith)
+  place-past (x ∷ xs) zero d h l e = rw e (omega arith)
+  place-past (x ∷ xs) (suc i) d h l e = go (p x) l (place-past xs i d (omega arith))
+    where
+      go : (b : Bool) → suc i ≤ cond b 0 (suc (placeOf p xs)) →
+          (i ≤ placeOf p xs → p (getD xs i d) ≡ false → i < placeOf p xs) →
+          suc i < cond b 0 (suc (placeOf p xs))
+      go true l ih = absurd (omega arith)
+      go false l ih = omega (arith, ih (omega arith) e)
+
+-- the same among the first n entries of a list
+module _ {A : Type 0} (p : A → Bool) (xs : List A) (n i : ℕ) (enough : n ≤ length xs) (none : i ≤ placeOf p (take n xs)) where
+  pub first-here : (d : A) → i < n → p (getD xs i d) ≡ true → i ≡ placeOf p (take n xs)
+  first-here d h e =
+      place-here p (take n xs) i d (omega (arith, length-take-le n xs enough)) none (rw (getD-take n xs i d h) e)
+
+  pub first-past : (d : A) → i < n → p (getD xs i d) ≡ false → i + 1 ≤ placeOf p (take n xs)
+  first-past d h e =
+      omega (arith, place-past p (take n xs) i d (omega (arith, length-take-le n xs enough)) none (rw (getD-take n xs i d h) e))
+
+  pub first-none : n ≤ i → n ≡ placeOf p (take n xs)
+  first-none h = omega (arith, length-take-le n xs enough, place-end p (take n xs))
+
+-- ---- texts compared byte by byte
+
+pub same-none : (a b : List ℕ) → (length a ≡ length b → ⊥) → false ≡ same a b
+same-none a b h = go (same a b) refl
+  where
+    go : (t : Bool) → same a b ≡ t → false ≡ t
+    go true e = absurd (h (ap length (same-true a b e)))
+    go false e = refl
+
+pub same-more : (a b : List ℕ) (i : ℕ) → i < length a → i < length b →
+    same (take (suc i) a) (take (suc i) b) ≡ (same (take i a) (take i b) && eqb (getD a i 0) (getD b i 0))
+unfolding same
+same-more [] b i h k = absurd (omega arith)
+same-more (x ∷ a) [] i h k = absurd (omega arith)
+same-more (x ∷ a) (y ∷ b) zero h k = go (eqb x y)
+  where
+    go : (t : Bool) → (t && true) ≡ t
+    go true = refl
+    go false = refl
+same-more (x ∷ a) (y ∷ b) (suc i) h k = go (eqb x y) (same-more a b i (omega arith) (omega arith))
+  where
+    go : (t : Bool) → same (take (suc i) a) (take (suc i) b) ≡ (same (take i a) (take i b) && eqb (getD a i 0) (getD b i 0)) →
+        (t && same (take (suc i) a) (take (suc i) b)) ≡ (t && same (take i a) (take i b) && eqb (getD a i 0) (getD b i 0))
+    go true e = e
+    go false e = refl

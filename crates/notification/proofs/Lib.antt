@@ -11,3 +11,8 @@ pub mod Places
 pub mod Bodies
 pub mod Tables
 pub mod TwoWays
+pub mod Tested
+pub mod Placed
+pub mod Pieces
+pub mod StepLines
+pub mod Answers

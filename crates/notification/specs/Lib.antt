@@ -2,3 +2,4 @@
 pub mod Forms
 pub mod Writing
 pub mod Reading
+pub mod Placing

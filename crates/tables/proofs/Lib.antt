@@ -1,0 +1,6 @@
+-- What is true of the tables.
+pub mod Entries
+pub mod Texts
+pub mod Placed
+pub mod Down
+pub mod LoadTable

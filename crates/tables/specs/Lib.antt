@@ -1,0 +1,2 @@
+-- What the tables of a register hold.
+pub mod Tables

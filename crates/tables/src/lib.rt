@@ -1,0 +1,5 @@
+// The tables of a register: actors, categories, loads and records.
+pub mod actors;
+pub mod categories;
+pub mod loads;
+pub mod records;
