@@ -2,7 +2,8 @@
 use mathlib.Core.Path.{_≡_, refl}
 use mathlib.Core.Bool.{Bool, true, false, false≢true}
 use mathlib.Core.List.{List, [], _∷_, _++_}
-use Prim.Native.Nat.{ℕ, zero, suc, _+_, _<_, _≤_}
+use Prim.Native.Nat.{ℕ, zero, suc, _+_, _-_, _<_, _≤_}
+use native.Mathlib.Numerals.{add-one}
 use native.Mathlib.Omega.{arith}
 use lib.Dec.{eqb}
 use lib.ListN.{length, getD, take, replicate}
@@ -76,6 +77,9 @@ every-equal z (x ∷ s) e =
 
 -- ---- firstFrom
 
+left : (i n : ℕ) → i < n → n - i ≡ suc (n - (i + 1))
+left i n h = omega arith
+
 module _ (p : ℕ → Bool) where
   -- the answer is one of the numbers searched, or the one after them
   pub first-from : (i n : ℕ) → i ≤ firstFrom p i n
@@ -121,3 +125,23 @@ module _ (p : ℕ → Bool) where
   first-none i (suc n) h =
       let e = first-none (suc i) n (λ k a b. h k (omega arith) (omega arith)) in
       rw (h i (omega arith) (omega arith)) (omega arith)
+
+  -- a search up to a number, step by step: it ends where the test passes, goes on where it doesn't, and ends at that number
+  pub first-here : (i n : ℕ) → i < n → p i ≡ true → firstFrom p i (n - i) ≡ i
+  unfolding firstFrom
+  first-here i n h e = rw (left i n h, e)
+
+  pub first-past : (i n : ℕ) → i < n → p i ≡ false → firstFrom p i (n - i) ≡ firstFrom p (i + 1) (n - (i + 1))
+  unfolding firstFrom
+  first-past i n h e = rw (left i n h, e, add-one i)
+
+  pub first-end : (i n : ℕ) → n ≤ i → firstFrom p i (n - i) ≡ i
+  unfolding firstFrom
+  first-end i n h = let z : n - i ≡ 0 = omega arith in rw z
+
+-- two tests that agree on the numbers searched have the same answer
+pub first-agree : (p q : ℕ → Bool) (i n : ℕ) → ((k : ℕ) → i ≤ k → k < i + n → p k ≡ q k) → firstFrom p i n ≡ firstFrom q i n
+unfolding firstFrom
+first-agree p q i zero h = refl
+first-agree p q i (suc n) h =
+    rw (h i (omega arith) (omega arith), first-agree p q (suc i) n (λ k a b. h k (omega arith) (omega arith)))

@@ -1,4 +1,4 @@
--- What writing leaves in the buffers that are lent to it.
+-- The pieces in which a name and a body are put, and what writing leaves in the two buffers that are lent to it.
 use mathlib.Core.Path.{_≡_}
 use mathlib.Core.Bool.{true}
 use mathlib.Core.List.{List, [], _∷_, _++_}

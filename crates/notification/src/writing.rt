@@ -64,13 +64,14 @@ fn name_length(key: Key) -> usize
     NAME_FRAME + category_length(category)
 }
 
-// A refusal without a place, as a verdict.
+// A refusal that comes from the input, without a place.
 fn no_input(f: InputRefusal) -> Verdict
     ensures { λ r. ⌜ r ≡ Verdict.No (input f) ⌝ }
 {
     Verdict::No(Refusal::Input(f, 0))
 }
 
+// A refusal that comes from the state, without a place.
 fn no_state(f: StateRefusal) -> Verdict
     ensures { λ r. ⌜ r ≡ Verdict.No (state f) ⌝ }
 {

@@ -31,7 +31,10 @@ is-category-requires : tie.Need-is-category-requires
 is-category-requires c κs = search needs
 
 returns : tie.Need-returns
-returns c = let n = c .before .before .before .before .before .before .category-length in formed-tests (c .before .before .before .before .before .before .before .before .before .before .args .key) _ _ _ (n .result) (c .before .before .before .before .is-code .ensures) (c .before .before .is-code2 .ensures) (c .is-category .ensures) (n .ensures .0)
+returns c =
+    let n = c .before .before .before .before .before .before .category-length in
+    formed-tests (c .before .before .before .before .before .before .before .before .before .before .args .key) _ _ _ (n .result)
+    (c .before .before .before .before .is-code .ensures) (c .before .before .is-code2 .ensures) (c .is-category .ensures) (n .ensures .0)
 
 pub is-formed-spec : {M : Type 1} → statement M
 is-formed-spec =

@@ -23,7 +23,8 @@ zeros-from-requires : tie.Need-zeros-from-requires
 zeros-from-requires c κs = search needs
 
 returns : tie.Need-returns
-returns c = ranged-tests _ _ _ _ (c .before .before .before .before .steps-of .ensures) (c .before .before .all-powers .ensures) (c .zeros-from .ensures)
+returns c =
+    ranged-tests _ _ _ _ (c .before .before .before .before .steps-of .ensures) (c .before .before .all-powers .ensures) (c .zeros-from .ensures)
 
 pub is-ranged-spec : {M : Type 1} → statement M
 is-ranged-spec =

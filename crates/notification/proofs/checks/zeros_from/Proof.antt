@@ -33,11 +33,15 @@ loop-less : tie.Need-loop-less Inv-loop μ-loop
 loop-less c = search needs
 
 loop-again : tie.Need-loop-again Inv-loop μ-loop
-loop-again c = let l = c .before .before .loop in checked-more (λ p. eqb p 0) (c .before .before .before .args .powers .now) _ (l .i) (l .good) (c .before .loop-test .taken) (l .inv)
+loop-again c =
+    let l = c .before .before .loop in
+    checked-more (λ p. eqb p 0) (c .before .before .before .args .powers .now) _ (l .i) (l .good) (c .before .loop-test .taken) (l .inv)
 
 returns : tie.Need-returns Inv-loop μ-loop
 unfolding allZero
-returns c = let l = c .before .loop in checked-all (λ p. eqb p 0) (c .before .before .args .powers .now) _ (l .i) (l .good) (c .loop-test .left) (l .inv)
+returns c =
+    let l = c .before .loop in
+    checked-all (λ p. eqb p 0) (c .before .before .args .powers .now) _ (l .i) (l .good) (c .loop-test .left) (l .inv)
 
 pub zeros-from-spec : {M : Type 1} → statement M
 zeros-from-spec =

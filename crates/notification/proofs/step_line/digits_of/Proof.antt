@@ -20,13 +20,18 @@ digit-requires-3 : tie.Need-digit-requires-3
 digit-requires-3 c κs = search needs
 
 returns-3 : tie.Need-returns-3
-returns-3 c = digits-three _ _ (c .before .before .before .before .before .digit .ensures) (c .before .before .before .before .if1 .left) _ (c .before .before .before .digit2 .ensures) (c .before .before .if2 .left) _ (c .before .digit3 .ensures) (c .if3 .taken)
+returns-3 c =
+    digits-three _ _ (c .before .before .before .before .before .digit .ensures) (c .before .before .before .before .if1 .left) _
+    (c .before .before .before .digit2 .ensures) (c .before .before .if2 .left) _ (c .before .digit3 .ensures) (c .if3 .taken)
 
 digit-requires-4 : tie.Need-digit-requires-4
 digit-requires-4 c κs = search needs
 
 returns-4 : tie.Need-returns-4
-returns-4 c = digits-four _ _ (c .before .before .before .before .before .before .digit .ensures) (c .before .before .before .before .before .if1 .left) _ (c .before .before .before .before .digit2 .ensures) (c .before .before .before .if2 .left) _ (c .before .before .digit3 .ensures) (c .before .if3 .left) (c .before .before .before .before .before .before .before .pre) _ (c .digit4 .ensures)
+returns-4 c =
+    digits-four _ _ (c .before .before .before .before .before .before .digit .ensures) (c .before .before .before .before .before .if1 .left) _
+    (c .before .before .before .before .digit2 .ensures) (c .before .before .before .if2 .left) _ (c .before .before .digit3 .ensures)
+    (c .before .if3 .left) (c .before .before .before .before .before .before .before .pre) _ (c .digit4 .ensures)
 
 pub digits-of-spec : {M : Type 1} → statement M
 digits-of-spec =

@@ -21,13 +21,23 @@ add-result : tie.Need-add-result
 add-result c = search needs
 
 add-result-2 : tie.Need-add-result-2
-add-result-2 c = let s = (let a = c .before .before .before .before .before .before .before in line-sum (a .args .steps) (a .args .step) (a .pre .0) (a .pre .1) (c .before .before .before .before .before .before .labels-of .result) (c .before .before .before .before .before .before .labels-of .ensures) (a .args .p) (c .before .before .before .digits-of .result .len) (c .before .before .before .digits-of .ensures .1)) in omega arith
+add-result-2 c =
+    let a = c .before .before .before .before .before .before .before in
+    let s = line-sum (a .args .steps) (a .args .step) (a .pre .0) (a .pre .1) (c .before .before .before .before .before .before .labels-of .result) (c .before .before .before .before .before .before .labels-of .ensures) (a .args .p) (c .before .before .before .digits-of .result .len) (c .before .before .before .digits-of .ensures .1) in
+    omega arith
 
 add-result-3 : tie.Need-add-result-3
-add-result-3 c = let s = (let a = c .before .before .before .before .before .before .before in line-sum (a .args .steps) (a .args .step) (a .pre .0) (a .pre .1) (c .before .before .before .before .before .before .labels-of .result) (c .before .before .before .before .before .before .labels-of .ensures) (a .args .p) (c .before .before .before .digits-of .result .len) (c .before .before .before .digits-of .ensures .1)) in omega arith
+add-result-3 c =
+    let a = c .before .before .before .before .before .before .before in
+    let s = line-sum (a .args .steps) (a .args .step) (a .pre .0) (a .pre .1) (c .before .before .before .before .before .before .labels-of .result) (c .before .before .before .before .before .before .labels-of .ensures) (a .args .p) (c .before .before .before .digits-of .result .len) (c .before .before .before .digits-of .ensures .1) in
+    omega arith
 
 returns : tie.Need-returns
-returns c = (let a = c .before .before .before .before .before .before .before in line-sum (a .args .steps) (a .args .step) (a .pre .0) (a .pre .1) (c .before .before .before .before .before .before .labels-of .result) (c .before .before .before .before .before .before .labels-of .ensures) (a .args .p) (c .before .before .before .digits-of .result .len) (c .before .before .before .digits-of .ensures .1)) .0
+returns c =
+    let a = c .before .before .before .before .before .before .before in
+    line-sum (a .args .steps) (a .args .step) (a .pre .0) (a .pre .1) (c .before .before .before .before .before .before .labels-of .result)
+    (c .before .before .before .before .before .before .labels-of .ensures) (a .args .p) (c .before .before .before .digits-of .result .len)
+    (c .before .before .before .digits-of .ensures .1) .0
 
 pub line-length-spec : {M : Type 1} → statement M
 line-length-spec =

@@ -16,7 +16,9 @@ slice-aggregate-put-ended : tie.Need-slice-aggregate-put-ended
 slice-aggregate-put-ended c = sym (length-take-le _ _ (c .before .before .before .before .before .pre .1))
 
 put-ended-requires : tie.Need-put-ended-requires
-put-ended-requires c κs = omega (arith, length-take-le (c .before .before .before .before .before .args .label .len) (c .before .before .before .before .before .args .label .bytes) (c .before .before .before .before .before .pre .1), c .before .before .before .before .before .pre .0)
+put-ended-requires c κs =
+    omega
+    (arith, length-take-le (c .before .before .before .before .before .args .label .len) (c .before .before .before .before .before .args .label .bytes) (c .before .before .before .before .before .pre .1), c .before .before .before .before .before .pre .0)
 
 same-length : tie.Need-same-length
 same-length c = search needs

@@ -29,10 +29,16 @@ shared-slice-read-line-length : tie.Need-shared-slice-read-line-length Inv-loop 
 shared-slice-read-line-length c = let a = c .before .before .before .before in omega (arith, a .pre .there)
 
 line-length-requires : tie.Need-line-length-requires Inv-loop μ-loop
-line-length-requires c κs = let a = c .before .before .before .before in (c .before .loop-test .taken, a .pre .few, step-power (a .args .steps) (a .args .powers .now) (a .pre) (c .before .before .loop .k) (c .before .loop-test .taken))
+line-length-requires c κs =
+    let a = c .before .before .before .before in
+    (c .before .loop-test .taken, a .pre .few, step-power (a .args .steps) (a .args .powers .now) (a .pre) (c .before .before .loop .k) (c .before .loop-test .taken))
 
 add-sum : tie.Need-add-sum Inv-loop μ-loop
-add-sum c = let a = c .before .before .before .before .before in let l = c .before .before .before .loop in omega (arith, sum-fits (a .args .steps) (a .args .powers .now) (a .pre) (l .k) (c .before .before .loop-test .taken) (l .sum) (c .line-length .result) (l .inv .1) (c .line-length .ensures))
+add-sum c =
+    let a = c .before .before .before .before .before in
+    let l = c .before .before .before .loop in
+    omega
+    (arith, sum-fits (a .args .steps) (a .args .powers .now) (a .pre) (l .k) (c .before .before .loop-test .taken) (l .sum) (c .line-length .result) (l .inv .1) (c .line-length .ensures))
 
 add-k : tie.Need-add-k Inv-loop μ-loop
 add-k c = search needs
@@ -41,10 +47,16 @@ loop-less : tie.Need-loop-less Inv-loop μ-loop
 loop-less c = search needs
 
 loop-again : tie.Need-loop-again Inv-loop μ-loop
-loop-again c = let a = c .before .before .before .before .before in let l = c .before .before .before .loop in (omega arith, sum-more (a .args .steps) (a .args .powers .now) (a .pre) (l .k) (c .before .before .loop-test .taken) (l .sum) (c .line-length .result) (l .inv .1) (c .line-length .ensures))
+loop-again c =
+    let a = c .before .before .before .before .before in
+    let l = c .before .before .before .loop in
+    (omega arith, sum-more (a .args .steps) (a .args .powers .now) (a .pre) (l .k) (c .before .before .loop-test .taken) (l .sum) (c .line-length .result) (l .inv .1) (c .line-length .ensures))
 
 returns : tie.Need-returns Inv-loop μ-loop
-returns c = let a = c .before .before .before in let l = c .before .loop in sum-all (a .args .steps) (a .args .powers .now) (a .pre) (l .sum) (l .k) (l .inv .0) (c .loop-test .left) (l .inv .1)
+returns c =
+    let a = c .before .before .before in
+    let l = c .before .loop in
+    sum-all (a .args .steps) (a .args .powers .now) (a .pre) (l .sum) (l .k) (l .inv .0) (c .loop-test .left) (l .inv .1)
 
 pub lines-length-spec : {M : Type 1} → statement M
 lines-length-spec =

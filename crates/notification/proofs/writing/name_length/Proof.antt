@@ -9,10 +9,14 @@ category-length-requires : tie.Need-category-length-requires
 category-length-requires c κs = search needs
 
 add-result : tie.Need-add-result
-add-result c = let s = (let a = c .before .before in let n = c .category-length in name-sum (a .args .key) (n .result) (a .pre) (n .ensures .1)) in omega (arith, s .1)
+add-result c =
+    let a = c .before .before in
+    let n = c .category-length in
+    let s = name-sum (a .args .key) (n .result) (a .pre) (n .ensures .1) in
+    omega (arith, s .1)
 
 returns : tie.Need-returns
-returns c = (let a = c .before .before in let n = c .category-length in name-sum (a .args .key) (n .result) (a .pre) (n .ensures .1)) .0
+returns c = let a = c .before .before in let n = c .category-length in name-sum (a .args .key) (n .result) (a .pre) (n .ensures .1) .0
 
 pub name-length-spec : {M : Type 1} → statement M
 name-length-spec = tie.close (tie.spec category-length-requires add-result returns)

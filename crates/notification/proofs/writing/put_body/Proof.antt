@@ -13,13 +13,20 @@ slice-aggregate-put-lines : tie.Need-slice-aggregate-put-lines
 slice-aggregate-put-lines c = search needs
 
 put-lines-requires : tie.Need-put-lines-requires
-put-lines-requires c κs = let a = c .before .before .before .before .before .before .before .before in let l : length (a .args .n .powers) ≡ 50 = search needs in let w = ranged-powers (a .args .n) (a .pre .0) l in (w, room-lines (a .args .n) (a .args .buffer .now) (a .pre .1) _ _ (c .before .before .before .before .put-header .ensures))
+put-lines-requires c κs =
+    let a = c .before .before .before .before .before .before .before .before in
+    let l : length (a .args .n .powers) ≡ 50 = search needs in
+    let w = ranged-powers (a .args .n) (a .pre .0) l in
+    (w, room-lines (a .args .n) (a .args .buffer .now) (a .pre .1) _ _ (c .before .before .before .before .put-header .ensures))
 
 same-length : tie.Need-same-length
 same-length c = search needs
 
 returns : tie.Need-returns
-returns c = let a = c .before .before .before .before .before .before .before .before .before .before .before in body-placed (a .args .n) (a .args .buffer .now) (a .pre .1) _ _ (c .before .before .before .before .before .before .before .put-header .ensures) _ _ (c .before .before .put-lines .ensures)
+returns c =
+    let a = c .before .before .before .before .before .before .before .before .before .before .before in
+    body-placed (a .args .n) (a .args .buffer .now) (a .pre .1) _ _ (c .before .before .before .before .before .before .before .put-header .ensures) _
+    _ (c .before .before .put-lines .ensures)
 
 pub put-body-spec : {M : Type 1} → statement M
 put-body-spec =

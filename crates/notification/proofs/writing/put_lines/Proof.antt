@@ -30,7 +30,11 @@ shared-slice-read-put-line : tie.Need-shared-slice-read-put-line Inv-loop μ-loo
 shared-slice-read-put-line c = let a = c .before .before .before .before .before .before in omega (arith, a .pre .0 .there)
 
 put-line-requires : tie.Need-put-line-requires Inv-loop μ-loop
-put-line-requires c κs = let a = c .before .before .before .before .before .before in let l = c .before .before .before .loop in let h = c .before .before .loop-test .taken in (h, a .pre .0 .few, step-power (a .args .steps) (a .args .powers .now) (a .pre .0) (l .k) h, step-room (a .args .steps) (a .args .powers .now) (a .pre .0) (l .k) h _ _ _ _ (l .inv .1) (a .pre .1))
+put-line-requires c κs =
+    let a = c .before .before .before .before .before .before in
+    let l = c .before .before .before .loop in
+    let h = c .before .before .loop-test .taken in
+    (h, a .pre .0 .few, step-power (a .args .steps) (a .args .powers .now) (a .pre .0) (l .k) h, step-room (a .args .steps) (a .args .powers .now) (a .pre .0) (l .k) h _ _ _ _ (l .inv .1) (a .pre .1))
 
 add-k : tie.Need-add-k Inv-loop μ-loop
 add-k c = search needs
@@ -39,13 +43,20 @@ loop-less : tie.Need-loop-less Inv-loop μ-loop
 loop-less c = search needs
 
 loop-again : tie.Need-loop-again Inv-loop μ-loop
-loop-again c = let a = c .before .before .before .before .before .before .before .before .before in let l = c .before .before .before .before .before .before .loop in let h = c .before .before .before .before .before .loop-test .taken in (omega arith, step-placed (a .args .steps) (a .args .powers .now) (a .pre .0) (l .k) h _ _ _ _ (l .inv .1) _ _ (c .before .before .put-line .ensures))
+loop-again c =
+    let a = c .before .before .before .before .before .before .before .before .before in
+    let l = c .before .before .before .before .before .before .loop in
+    let h = c .before .before .before .before .before .loop-test .taken in
+    (omega arith, step-placed (a .args .steps) (a .args .powers .now) (a .pre .0) (l .k) h _ _ _ _ (l .inv .1) _ _ (c .before .before .put-line .ensures))
 
 same-length : tie.Need-same-length Inv-loop μ-loop
 same-length c = placed-length (c .before .loop .inv .1)
 
 returns : tie.Need-returns Inv-loop μ-loop
-returns c = let a = c .before .before .before .before in let l = c .before .loop in lines-placed (a .args .steps) (a .args .powers .now) (a .pre .0) _ _ _ _ (l .k) (l .inv .0) (c .loop-test .left) (l .inv .1)
+returns c =
+    let a = c .before .before .before .before in
+    let l = c .before .loop in
+    lines-placed (a .args .steps) (a .args .powers .now) (a .pre .0) _ _ _ _ (l .k) (l .inv .0) (c .loop-test .left) (l .inv .1)
 
 pub put-lines-spec : {M : Type 1} → statement M
 put-lines-spec =

@@ -12,10 +12,15 @@ enum-told : tie.Need-enum-told
 enum-told c = search needs
 
 put-name-requires : tie.Need-put-name-requires
-put-name-requires c κs = let a = c .before .before .before .before .before .before in passed (a .args .n) _ _ (sym (c .before .enum-told .given .1) ∙ c .before .before .before .write-verdict .ensures) .name-room
+put-name-requires c κs =
+    let a = c .before .before .before .before .before .before in
+    passed (a .args .n) _ _ (sym (c .before .enum-told .given .1) ∙ c .before .before .before .write-verdict .ensures) .name-room
 
 put-body-requires : tie.Need-put-body-requires
-put-body-requires c κs = let a = c .before .before .before .before .before .before .before .before .before .before in let p = passed (a .args .n) _ _ (sym (c .before .before .before .before .before .enum-told .given .1) ∙ c .before .before .before .before .before .before .before .write-verdict .ensures) in (p .a-range, p .body-room)
+put-body-requires c κs =
+    let a = c .before .before .before .before .before .before .before .before .before .before in
+    let p = passed (a .args .n) _ _ (sym (c .before .before .before .before .before .enum-told .given .1) ∙ c .before .before .before .before .before .before .before .write-verdict .ensures) in
+    (p .a-range, p .body-room)
 
 enum-known-verdict : tie.Need-enum-known-verdict
 enum-known-verdict c = search needs
@@ -27,10 +32,16 @@ same-length-2 : tie.Need-same-length-2
 same-length-2 c = search needs
 
 returns : tie.Need-returns
-returns c = let a = c .before .before .before .before .before .before .before .before .before .before .before .before .before in file-passed (a .args .n) _ _ _ _ _ _ (sym (c .before .before .before .before .before .before .before .before .enum-told .given .1) ∙ c .before .before .before .before .before .before .before .before .before .before .write-verdict .ensures) (c .before .before .before .before .before .before .put-name .ensures) (c .before .before .put-body .ensures)
+returns c =
+    let a = c .before .before .before .before .before .before .before .before .before .before .before .before .before in
+    file-passed (a .args .n) _ _ _ _ _ _
+    (sym (c .before .before .before .before .before .before .before .before .enum-told .given .1) ∙ c .before .before .before .before .before .before .before .before .before .before .write-verdict .ensures)
+    (c .before .before .before .before .before .before .put-name .ensures) (c .before .before .put-body .ensures)
 
 returns-2 : tie.Need-returns-2
-returns-2 c = let a = c .before .before .before .before .before .before in file-refused (a .args .n) _ _ _ (sym (c .before .verdict .given .1) ∙ c .before .before .before .write-verdict .ensures)
+returns-2 c =
+    let a = c .before .before .before .before .before .before in
+    file-refused (a .args .n) _ _ _ (sym (c .before .verdict .given .1) ∙ c .before .before .before .write-verdict .ensures)
 
 pub write-file-spec : {M : Type 1} → statement M
 write-file-spec =

@@ -1,0 +1,6 @@
+-- What is true of nets and of the checks by them.
+pub mod Stores
+pub mod Netting
+pub mod Verdicts
+pub mod Keys
+pub mod Ledger

@@ -1,0 +1,3 @@
+-- What the sums and the checks of a filing mean.
+pub mod Nets
+pub mod Steps

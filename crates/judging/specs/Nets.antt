@@ -1,0 +1,67 @@
+-- What the register's own sums mean, step by step.
+use mathlib.Core.Path.{_≡_}
+use mathlib.Core.Bool.{Bool, true, false, cond, not, _&&_, _||_}
+use mathlib.Core.List.{List, []}
+use Prim.Native.Nat.{ℕ, _+_, _*_, _/_, _%_, _≤_, _<_}
+use lib.Dec.{eqb, leb, ltb}
+use lib.ListN.{length, getD}
+use Rattle.lists.specs.Sums.{sumTo}
+use Rattle.ledger.specs.Statuses.{validated, updated}
+use Rattle.tables.specs.Tables.{Columns}
+use Rattle.judging.specs.declared.nets.Nets.{Nets}
+
+-- what nets are counted from
+abbrev pub base : ℕ
+base = 16777216
+
+-- what no net is above: a loaded power and one more from each of 256 records
+abbrev pub most : ℕ
+most = base + 257 * 65535
+
+-- fifty numbers, each from a least to a most
+pub record Between (net : List ℕ) (least most : ℕ) : Type 0 where
+  pub fifty : length net ≡ 50
+  pub low : (s : ℕ) → s < 50 → least ≤ getD net s 0
+  pub high : (s : ℕ) → s < 50 → getD net s 0 ≤ most
+
+-- a row counted from the base
+pub record Based (row net : List ℕ) : Type 0 where
+  pub between : Between net base (base + 65535)
+  pub each : (s : ℕ) → s < 50 → getD net s 0 ≡ base + getD row s 0
+
+-- the power of a marked row at a step, where the step is in the mark's span
+abbrev pub spanned : List ℕ → List ℕ → ℕ → ℕ
+spanned mark row s = cond (leb (getD mark 1 0) s && ltb s (getD mark 2 0)) (getD row s 0) 0
+
+-- a net with a marked row gained or given at the steps from first to before until
+pub record Turned (net : List ℕ) (gains gives : Bool) (mark row : List ℕ) (first until : ℕ) (r : List ℕ) : Type 0 where
+  pub fifty : length r ≡ 50
+  pub each : (s : ℕ) → first ≤ s → s < until →
+      getD r s 0 + cond gives (spanned mark row s) 0 ≡ getD net s 0 + cond gains (spanned mark row s) 0
+  pub low : (s : ℕ) → s < 50 → getD net s 0 ≤ getD r s 0 + 65535
+  pub high : (s : ℕ) → s < 50 → getD r s 0 ≤ getD net s 0 + 65535
+
+-- a record that moves power under another key of the same category and day, with one of two actors as a party
+abbrev pub concerns : ℕ → ℕ → ℕ → ℕ → ℕ → Bool
+concerns key status own ceder acquirer =
+    eqb (key / 64) (own / 64) && not (eqb key own)
+    && ((eqb status validated || eqb status updated)
+    && (eqb (key / 8 % 8) ceder || eqb (key / 8 % 8) acquirer || (eqb (key % 8) ceder || eqb (key % 8) acquirer)))
+
+-- what record i moves at step s where it concerns the filing, and is of a kind
+abbrev pub part : Columns → List ℕ → ℕ → (ℕ → Bool) → ℕ → ℕ → ℕ
+part cols statuses own kind s i =
+    cond (concerns (getD (cols .keys) i 0) (getD statuses i 0) own (own / 8 % 8) (own % 8) && kind (getD (cols .keys) i 0))
+    (spanned (getD (cols .marks) i []) (getD (cols .rows) i []) s)
+    0
+
+-- the nets after the first n records
+pub record Netted (cols : Columns) (statuses : List ℕ) (n own : ℕ) (start : Nets) (first until : ℕ) (r : Nets) : Type 0 where
+  pub ceder : (s : ℕ) → first ≤ s → s < until →
+      getD (r .ceder) s 0 + sumTo n (part cols statuses own (λ k. eqb (k / 8 % 8) (own / 8 % 8)) s)
+      ≡ getD (start .ceder) s 0 + sumTo n (part cols statuses own (λ k. eqb (k % 8) (own / 8 % 8)) s)
+  pub acquirer : (s : ℕ) → first ≤ s → s < until →
+      getD (r .acquirer) s 0 + sumTo n (part cols statuses own (λ k. eqb (k / 8 % 8) (own % 8)) s)
+      ≡ getD (start .acquirer) s 0 + sumTo n (part cols statuses own (λ k. eqb (k % 8) (own % 8)) s)
+  pub ceder-high : (s : ℕ) → s < 50 → getD (r .ceder) s 0 ≤ most
+  pub acquirer-high : (s : ℕ) → s < 50 → getD (r .acquirer) s 0 ≤ most

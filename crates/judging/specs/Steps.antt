@@ -1,0 +1,24 @@
+-- The checks 32 to 35 by the nets of ceder and acquirer.
+use mathlib.Core.Bool.{Bool}
+use mathlib.Core.List.{List, [], _∷_}
+use Prim.Native.Nat.{ℕ, _+_}
+use lib.Dec.{ltb}
+use lib.ListN.{getD}
+use Rattle.refusals.specs.Tests.{Test}
+use Rattle.refusals.specs.declared.StateRefusal.the-variants.{CederBelow, AcquirerAbove, CederAbove, AcquirerBelow}
+use Rattle.ledger.specs.Filing.{failing}
+use Rattle.judging.specs.Nets.{base}
+use Rattle.judging.specs.declared.nets.Nets.{Nets}
+
+-- one number below another, step by step
+abbrev pub belowAt : List ℕ → List ℕ → ℕ → Bool
+belowAt left right s = ltb (getD left s 0) (getD right s 0)
+
+-- 32 to 35 by the nets: ceder, acquirer without the key's own power, and the filed power
+unfoldable pub netTests : Nets → List ℕ → ℕ → ℕ → ℕ → ℕ → List Test
+netTests nets ps cedersMost acquirersMost first until =
+    failing CederBelow (λ s. ltb (getD (nets .ceder) s 0) (base + getD ps s 0)) first until
+    ∷ failing AcquirerAbove (λ s. ltb (base + acquirersMost) (getD (nets .acquirer) s 0 + getD ps s 0)) first until
+    ∷ failing CederAbove (λ s. ltb (base + cedersMost + getD ps s 0) (getD (nets .ceder) s 0)) first until
+    ∷ failing AcquirerBelow (λ s. ltb (getD (nets .acquirer) s 0 + getD ps s 0) base) first until
+    ∷ []

@@ -1,0 +1,3 @@
+// Judging a filing at its counted steps.
+pub mod nets;
+pub mod steps;

@@ -1,0 +1,101 @@
+// The checks 32 to 35 of a filing at its counted steps, by what ceder and acquirer have.
+ghost use mathlib.Core.Path.{_≡_};
+ghost use Prim.Native.Nat.{ℕ, _<_, _≤_, _+_, _-_};
+ghost use lib.ListN.{getD};
+ghost use Rattle.lists.specs.Searches.{firstFrom};
+ghost use Rattle.refusals.specs.Tests.{firstMet};
+ghost use Rattle.judging.specs.Nets.{most};
+ghost use Rattle.judging.specs.Steps.{belowAt, netTests};
+use crate::nets::BASE;
+use crate::nets::Nets;
+use refusals::Refusal;
+use refusals::StateRefusal;
+use refusals::Verdict;
+use tables::records::wide;
+
+// A refusal that comes from the state, with its place.
+pub fn no(r: StateRefusal, place: u32) -> Verdict
+    ensures { λ v. ⌜ v ≡ Verdict.No (Refusal.State r place) ⌝ }
+{
+    Verdict::No(Refusal::State(r, place))
+}
+
+// The first of the steps from `first` to before `until` at which one number is below another; `until` where there is none.
+fn first_below(left: [u32; 50], right: [u32; 50], first: u32, until: u32) -> u32
+    requires { ⌜ (first ≤ until) × (until ≤ 50) ⌝ }
+    ensures { λ r. ⌜ r ≡ firstFrom (belowAt left right) first (until - first) ⌝ }
+{
+    let mut s = first;
+    let found = loop {
+        if until <= s {
+            break until;
+        }
+        if left[s as usize] < right[s as usize] {
+            break s;
+        }
+        s += 1;
+    };
+    found
+}
+
+// A number and the power at each step.
+fn plus(n: u32, ps: [u16; 50]) -> [u32; 50]
+    requires { ⌜ n ≤ 4294901760 ⌝ }
+    ensures { λ r. ⌜ ((s : ℕ) → s < 50 → getD r s 0 ≡ n + getD ps s 0) ⌝ }
+{
+    let mut sums = [n; 50];
+    let mut s: usize = 0;
+    while s < 50 {
+        sums[s] = n + wide(ps[s]);
+        s += 1;
+    }
+    sums
+}
+
+// A net and the power at each step.
+fn sums(net: [u32; 50], ps: [u16; 50]) -> [u32; 50]
+    requires { ⌜ ((s : ℕ) → s < 50 → getD net s 0 ≤ most) ⌝ }
+    ensures { λ r. ⌜ ((s : ℕ) → s < 50 → getD r s 0 ≡ getD net s 0 + getD ps s 0) ⌝ }
+{
+    let mut sums = net;
+    let mut s: usize = 0;
+    while s < 50 {
+        sums[s] = net[s] + wide(ps[s]);
+        s += 1;
+    }
+    sums
+}
+
+// 32 to 35, by the nets of ceder and acquirer.
+pub fn step_verdict(
+    nets: Nets,
+    ps: [u16; 50],
+    ceders: u32,
+    acquirers: u32,
+    first: u32,
+    until: u32,
+) -> Verdict
+    requires { ⌜ (first ≤ until) × (until ≤ 50) × (ceders ≤ 65535) × (acquirers ≤ 65535) × ((s : ℕ) → s < 50 → getD (nets .acquirer) s 0 ≤ most) ⌝ }
+    ensures { λ r. ⌜ r ≡ firstMet (netTests nets ps ceders acquirers first until) ⌝ }
+{
+    let ceder = nets.ceder;
+    let acquirer = nets.acquirer;
+    let taken = sums(acquirer, ps);
+    let s = first_below(ceder, plus(BASE, ps), first, until);
+    if s < until {
+        return no(StateRefusal::CederBelow, s);
+    }
+    let s = first_below([BASE + acquirers; 50], taken, first, until);
+    if s < until {
+        return no(StateRefusal::AcquirerAbove, s);
+    }
+    let s = first_below(plus(BASE + ceders, ps), ceder, first, until);
+    if s < until {
+        return no(StateRefusal::CederAbove, s);
+    }
+    let s = first_below(taken, [BASE; 50], first, until);
+    if s < until {
+        return no(StateRefusal::AcquirerBelow, s);
+    }
+    Verdict::Pass
+}
