@@ -1,0 +1,301 @@
+-- What a filing makes of a record, case by case, as the code has the cases.
+use mathlib.Core.Path.{_≡_, refl, sym, _∙_, ap, ap₂}
+use mathlib.Core.Bool.{Bool, true, false, cond, not, _&&_, _||_, false≢true}
+use mathlib.Core.List.{List, []}
+use Prim.Native.Nat.{ℕ, _+_, _≤_, _<_}
+use native.Mathlib.Omega.{arith}
+use native.Mathlib.Numerals.{add-one}
+use native.Mathlib.Decide.{ℕ-discrete}
+use lib.Dec.{eqb}
+use lib.ListN.{length, getD, set, length-set}
+use lib.Seq.{getD-set-same, getD-set-other}
+use borrow.Author.Tests.{eq-eqb, ne-eqb}
+use Rattle.calendar.specs.Clocks.{firstCounted}
+use Rattle.calendar.specs.declared.clock.Clock.{Clock}
+use Rattle.ledger.specs.Statuses.{created, answered, deleted, validated, updated, obsolete}
+use Rattle.ledger.specs.Ledger.{Key, Rec, underKey}
+use Rattle.ledger.specs.Filing.{withStatus, ruleOne, ruleTwo, ruleThree, deletes, answers, replaces, obsoletes, samePowers, changed}
+use Rattle.tables.specs.Tables.{Columns, keyIn}
+use Rattle.lists.proofs.Tests.{and-true, and-right}
+use Rattle.recording.specs.Recording.{recOf, recAt, pairsBelow, ChangedAt, Changed}
+use Rattle.recording.proofs.Keys.{key-same}
+
+-- ---- tests in a row
+
+and-false : (s k : Bool) → k ≡ false → (s && k) ≡ false
+and-false true k e = e
+and-false false k e = refl
+
+module _ (s k x y : Bool) where
+  second-false : k ≡ false → (s && k && x && y) ≡ false
+  second-false e = ap (λ b. b && x && y) (and-false s k e)
+
+  third-false : x ≡ false → (s && k && x && y) ≡ false
+  third-false e = ap (λ b. b && y) (and-false (s && k) x e)
+
+-- ---- the other party's created record with the same powers
+
+module _ (by own status key : ℕ) (ps mark row : List ℕ) where
+  abbrev rec : Rec
+  rec = recOf 0 status key mark row
+
+  pub not-key : eqb key own ≡ false → false ≡ answers by (keyIn own) ps rec
+  not-key e =
+      sym (second-false (eqb status created) (underKey (keyIn own) rec) (not (eqb (getD mark 0 0) by)) (samePowers row ps)
+      (key-same key own ∙ e))
+
+  pub not-created : eqb status created ≡ false → false ≡ answers by (keyIn own) ps rec
+  not-created e = rw e
+
+  pub not-other : getD mark 0 0 ≡ by → false ≡ answers by (keyIn own) ps rec
+  not-other e =
+      sym (third-false (eqb status created) (underKey (keyIn own) rec) (not (eqb (getD mark 0 0) by)) (samePowers row ps)
+      (ap not (eq-eqb (getD mark 0 0) by e)))
+
+  pub by-powers : eqb key own ≡ true → eqb status created ≡ true → (getD mark 0 0 ≡ by → ⊥) →
+      samePowers row ps ≡ answers by (keyIn own) ps rec
+  by-powers e f g = rw (f, key-same key own ∙ e, ne-eqb (getD mark 0 0) by g)
+
+-- one record more
+pub pairs-next : (cols : Columns) (statuses : List ℕ) (i by own : ℕ) (ps : List ℕ) (a b : Bool) →
+    a ≡ answers by (keyIn own) ps (recAt cols statuses 0 i) → b ≡ pairsBelow cols statuses i by own ps →
+    (a || b) ≡ pairsBelow cols statuses (i + 1) by own ps
+unfolding pairsBelow
+pairs-next cols statuses i by own ps a b e f = rw (add-one i, e, f)
+
+-- ---- the rules one by one
+
+module _ (by : ℕ) (k : Key) (r : Rec) where
+  one-there : deletes by k r ≡ true → ruleOne by k r ≡ withStatus deleted (r .until) r
+  one-there t = ap (λ b. cond b (withStatus deleted (r .until) r) r) t
+
+  one-not : deletes by k r ≡ false → ruleOne by k r ≡ r
+  one-not t = ap (λ b. cond b (withStatus deleted (r .until) r) r) t
+
+module _ (by : ℕ) (k : Key) (ps : List ℕ) (r : Rec) where
+  two-there : answers by k ps r ≡ true → ruleTwo by k ps r ≡ withStatus answered (r .until) r
+  two-there t = ap (λ b. cond b (withStatus answered (r .until) r) r) t
+
+  two-not : answers by k ps r ≡ false → ruleTwo by k ps r ≡ r
+  two-not t = ap (λ b. cond b (withStatus answered (r .until) r) r) t
+
+module _ (clock : Clock) (k : Key) (r : Rec) where
+  three-not : replaces k r ≡ false → ruleThree clock k r ≡ r
+  three-not t =
+      ap (λ b. cond b (cond (obsoletes clock k r) (withStatus obsolete (r .until) r)
+      (withStatus updated (firstCounted clock (k .day)) r)) r) t
+
+  three-obsolete : replaces k r ≡ true → obsoletes clock k r ≡ true → ruleThree clock k r ≡ withStatus obsolete (r .until) r
+  three-obsolete t u = rw (t, u)
+
+  three-updated : replaces k r ≡ true → obsoletes clock k r ≡ false →
+      ruleThree clock k r ≡ withStatus updated (firstCounted clock (k .day)) r
+  three-updated t u = rw (t, u)
+
+-- ---- the rules together
+
+module _ (clock : Clock) (by : ℕ) (k : Key) (ps : List ℕ) (r : Rec) where
+  -- a record that no rule concerns
+  untouched : (paired : Bool) → deletes by k r ≡ false → (paired && answers by k ps r) ≡ false → (paired && replaces k r) ≡ false →
+      changed paired clock by k ps r ≡ r
+  untouched true d a v =
+      ap (λ x. ruleThree clock k (ruleTwo by k ps x)) (one-not by k r d)
+      ∙ ap (ruleThree clock k) (two-not by k ps r a)
+      ∙ three-not clock k r v
+  untouched false d a v = one-not by k r d
+
+  -- a record of another key
+  pub other-key : (paired : Bool) → underKey k r ≡ false → changed paired clock by k ps r ≡ r
+  other-key paired u =
+      let s = eqb (r .status) created in
+      untouched paired
+      (ap (λ b. b && eqb (r .submitter) by) (and-false s (underKey k r) u))
+      (and-false paired (answers by k ps r) (second-false s (underKey k r) (not (eqb (r .submitter) by)) (samePowers (r .powers) ps) u))
+      (and-false paired (replaces k r) (and-false (eqb (r .status) validated) (underKey k r) u))
+
+  module _ (u : underKey k r ≡ true) where
+    -- the submitter's own created record
+    pub own-deleted : (paired : Bool) → r .status ≡ created → r .submitter ≡ by →
+        changed paired clock by k ps r ≡ withStatus deleted (r .until) r
+    own-deleted paired s b = go paired
+      where
+        one : ruleOne by k r ≡ withStatus deleted (r .until) r
+        one = one-there by k r (rw (u, eq-eqb (r .status) created s, eq-eqb (r .submitter) by b))
+
+        go : (b : Bool) → changed b clock by k ps r ≡ withStatus deleted (r .until) r
+        go true = ap (λ x. ruleThree clock k (ruleTwo by k ps x)) one
+        go false = one
+
+    -- the other party's created record
+    pub other-answered : (paired : Bool) → (paired && samePowers (r .powers) ps) ≡ true → r .status ≡ created → (r .submitter ≡ by → ⊥) →
+        changed paired clock by k ps r ≡ withStatus answered (r .until) r
+    other-answered true p s b =
+        ap (λ x. ruleThree clock k (ruleTwo by k ps x))
+        (one-not by k r (and-false (eqb (r .status) created && underKey k r) (eqb (r .submitter) by) (ne-eqb (r .submitter) by b)))
+        ∙ ap (ruleThree clock k) (two-there by k ps r (rw (u, eq-eqb (r .status) created s, ne-eqb (r .submitter) by b, p)))
+    other-answered false p s b = absurd (false≢true p)
+
+    pub other-kept : (paired : Bool) → (paired && samePowers (r .powers) ps) ≡ false → r .status ≡ created → (r .submitter ≡ by → ⊥) →
+        changed paired clock by k ps r ≡ r
+    other-kept paired p s b =
+        untouched paired
+        (and-false (eqb (r .status) created && underKey k r) (eqb (r .submitter) by) (ne-eqb (r .submitter) by b))
+        (not-answered paired p)
+        (and-false paired (replaces k r) (rw s))
+      where
+        not-answered : (q : Bool) → (q && samePowers (r .powers) ps) ≡ false → (q && answers by k ps r) ≡ false
+        not-answered true p = and-false (eqb (r .status) created && underKey k r && not (eqb (r .submitter) by))
+            (samePowers (r .powers) ps) p
+        not-answered false p = refl
+
+    -- a validated record
+    module _ (paired : Bool) (p : (paired && eqb (r .status) validated) ≡ true) (s : r .status ≡ created → ⊥) where
+      before-three : changed paired clock by k ps r ≡ ruleThree clock k r
+      before-three = go paired p
+        where
+          go : (q : Bool) → (q && eqb (r .status) validated) ≡ true → changed q clock by k ps r ≡ ruleThree clock k r
+          go true e =
+              ap (λ x. ruleThree clock k (ruleTwo by k ps x)) (one-not by k r (rw (ne-eqb (r .status) created s)))
+              ∙ ap (ruleThree clock k) (two-not by k ps r (rw (ne-eqb (r .status) created s)))
+          go false e = absurd (false≢true e)
+
+      replaced : replaces k r ≡ true
+      replaced = and-true (eqb (r .status) validated) (underKey k r) (and-right paired (eqb (r .status) validated) p) u
+
+      pub made-obsolete : obsoletes clock k r ≡ true → changed paired clock by k ps r ≡ withStatus obsolete (r .until) r
+      made-obsolete o = before-three ∙ three-obsolete clock k r replaced o
+
+      pub made-updated : obsoletes clock k r ≡ false → changed paired clock by k ps r ≡ withStatus updated (firstCounted clock (k .day)) r
+      made-updated o = before-three ∙ three-updated clock k r replaced o
+
+    pub rest-kept : (paired : Bool) → (paired && eqb (r .status) validated) ≡ false → (r .status ≡ created → ⊥) →
+        changed paired clock by k ps r ≡ r
+    rest-kept paired p s =
+        untouched paired
+        (rw (ne-eqb (r .status) created s))
+        (and-false paired (answers by k ps r) (rw (ne-eqb (r .status) created s)))
+        (not-replaced paired p)
+      where
+        not-replaced : (q : Bool) → (q && eqb (r .status) validated) ≡ false → (q && replaces k r) ≡ false
+        not-replaced true p = ap (λ b. b && underKey k r) p
+        not-replaced false p = refl
+
+-- ---- nothing else of a record is changed
+
+module _ {A : Type 0} (f : Rec → A) (same : (s u : ℕ) (r : Rec) → f (withStatus s u r) ≡ f r) where
+  if-keeps : (t : Bool) (s u : ℕ) (r : Rec) → f (cond t (withStatus s u r) r) ≡ f r
+  if-keeps true s u r = same s u r
+  if-keeps false s u r = refl
+
+  three-keeps : (clock : Clock) (k : Key) (r : Rec) → f (ruleThree clock k r) ≡ f r
+  three-keeps clock k r = go (replaces k r) (obsoletes clock k r)
+    where
+      go : (t o : Bool) → f (cond t (cond o (withStatus obsolete (r .until) r) (withStatus updated (firstCounted clock (k .day)) r)) r) ≡ f r
+      go true true = same obsolete (r .until) r
+      go true false = same updated (firstCounted clock (k .day)) r
+      go false o = refl
+
+  pub changed-keeps : (paired : Bool) (clock : Clock) (by : ℕ) (k : Key) (ps : List ℕ) (r : Rec) → f (changed paired clock by k ps r) ≡ f r
+  changed-keeps true clock by k ps r =
+      three-keeps clock k (ruleTwo by k ps (ruleOne by k r))
+      ∙ if-keeps (answers by k ps (ruleOne by k r)) answered (ruleOne by k r .until) (ruleOne by k r)
+      ∙ if-keeps (deletes by k r) deleted (r .until) r
+  changed-keeps false clock by k ps r = if-keeps (deletes by k r) deleted (r .until) r
+
+-- a record that was changed is what it was but for its status and its until-step
+pub changed-is : (paired : Bool) (clock : Clock) (by : ℕ) (k : Key) (ps : List ℕ) (r : Rec) →
+    withStatus (changed paired clock by k ps r .status) (changed paired clock by k ps r .until) r ≡ changed paired clock by k ps r
+changed-is paired clock by k ps r =
+    let x = changed paired clock by k ps r in
+    ap (withStatus (x .status) (x .until)) (sym (changed-keeps (withStatus 0 0) (λ s u r. refl) paired clock by k ps r))
+
+-- ---- the records one by one
+
+module _ (paired : Bool) (clock : Clock) (by own : ℕ) (ps : List ℕ) where
+  -- the changed record stored
+  pub stored : (i status until : ℕ) (keys statuses mark : List ℕ) (marks rows : List (List ℕ)) → getD keys i 0 ≡ own →
+      ((id : ℕ) → (status ≡ changed paired clock by (keyIn own) ps
+      (recOf id (getD statuses i 0) own (getD marks i []) (getD rows i [])) .status)
+      × (until ≡ changed paired clock by (keyIn own) ps (recOf id (getD statuses i 0) own (getD marks i []) (getD rows i [])) .until)) →
+      (getD mark 0 0 ≡ getD (getD marks i []) 0 0) × (getD mark 1 0 ≡ getD (getD marks i []) 1 0) × (getD mark 2 0 ≡ until) →
+      ChangedAt paired clock by own ps i (record { keys = keys; marks = marks; rows = rows })
+      (record { keys = keys; marks = set marks i mark; rows = rows }) statuses (set statuses i status)
+  stored i status until keys statuses mark marks rows e f g =
+      record {
+        marks-long = length-set marks i mark;
+        long = length-set statuses i status;
+        other-marks = λ j ne. getD-set-other marks i j mark [] ne;
+        other = λ j ne. getD-set-other statuses i j status 0 ne;
+        here = λ h l id. rw (getD-set-same statuses i status 0 h, getD-set-same marks i mark [] l, e) (built id);
+      }
+    where
+      old : ℕ → Rec
+      old id = recOf id (getD statuses i 0) own (getD marks i []) (getD rows i [])
+
+      built : (id : ℕ) → recOf id status own mark (getD rows i []) ≡ changed paired clock by (keyIn own) ps (old id)
+      built id =
+          rw (g .0, g .1, g .2)
+          (ap₂ (λ s u. withStatus s u (old id)) (f id .0) (f id .1) ∙ changed-is paired clock by (keyIn own) ps (old id))
+
+  -- a record of another key left as it is
+  pub left-alone : (i : ℕ) (cols : Columns) (statuses : List ℕ) → (getD (cols .keys) i 0 ≡ own → ⊥) →
+      ChangedAt paired clock by own ps i cols cols statuses statuses
+  left-alone i cols statuses ne =
+      record {
+        marks-long = refl;
+        long = refl;
+        other-marks = λ j k. refl;
+        other = λ j k. refl;
+        here = λ h l id. sym (other-key clock by (keyIn own) ps (recAt cols statuses id i) paired
+            (key-same (getD (cols .keys) i 0) own ∙ ne-eqb (getD (cols .keys) i 0) own ne));
+      }
+
+  -- the records below i are changed, and the others are what they were
+  pub record Passed (i : ℕ) (cols after : Columns) (statuses next : List ℕ) : Type 0 where
+    pub below : Changed paired clock by own ps i cols after statuses next
+    pub rest-marks : (j : ℕ) → i ≤ j → getD (after .marks) j [] ≡ getD (cols .marks) j []
+    pub rest : (j : ℕ) → i ≤ j → getD next j 0 ≡ getD statuses j 0
+
+  pub passed-none : (cols : Columns) (statuses : List ℕ) → Passed 0 cols cols statuses statuses
+  passed-none cols statuses =
+      record {
+        below = record { keys = refl; rows = refl; marks-long = refl; long = refl; below = λ id i h. absurd (omega arith) };
+        rest-marks = λ j h. refl;
+        rest = λ j h. refl;
+      }
+
+  pub passed-more : (i : ℕ) (keys statuses next later : List ℕ) (rows marks after then : List (List ℕ)) →
+      i < length statuses → i < length marks →
+      Passed i (record { keys = keys; marks = marks; rows = rows }) (record { keys = keys; marks = after; rows = rows }) statuses next →
+      ChangedAt paired clock by own ps i (record { keys = keys; marks = after; rows = rows }) (record { keys = keys; marks = then; rows = rows }) next later →
+      Passed (i + 1) (record { keys = keys; marks = marks; rows = rows }) (record { keys = keys; marks = then; rows = rows }) statuses later
+  passed-more i keys statuses next later rows marks after then h l p c =
+      record {
+        below =
+            record {
+              keys = refl;
+              rows = refl;
+              marks-long = c .marks-long ∙ p .below .marks-long;
+              long = c .long ∙ p .below .long;
+              below = λ id j k. go id j k (ℕ-discrete j i);
+            };
+        rest-marks = λ j k. c .other-marks j (λ e. omega arith) ∙ p .rest-marks j (omega arith);
+        rest = λ j k. c .other j (λ e. omega arith) ∙ p .rest j (omega arith);
+      }
+    where
+      at : List (List ℕ) → List ℕ → ℕ → ℕ → Rec
+      at ms ss id j = recAt (record { keys = keys; marks = ms; rows = rows }) ss id j
+
+      equal : (ms ns : List (List ℕ)) (ss ts : List ℕ) (id j : ℕ) → getD ms j [] ≡ getD ns j [] → getD ss j 0 ≡ getD ts j 0 →
+          at ms ss id j ≡ at ns ts id j
+      equal ms ns ss ts id j e f = ap₂ (λ m s. recOf id s (getD keys j 0) m (getD rows j [])) e f
+
+      go : (id j : ℕ) → j < i + 1 → Dec (j ≡ i) → at then later id j ≡ changed paired clock by (keyIn own) ps (at marks statuses id j)
+      go id j k (yes e) =
+          rw e
+          (c .here (rw (p .below .long) h) (rw (p .below .marks-long) l) id
+          ∙ ap (changed paired clock by (keyIn own) ps)
+          (equal after marks next statuses id i (p .rest-marks i (omega arith)) (p .rest i (omega arith))))
+      go id j k (no e) =
+          equal then after later next id j (c .other-marks j e) (c .other j e)
+          ∙ p .below .below id j (omega arith)

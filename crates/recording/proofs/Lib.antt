@@ -1,0 +1,5 @@
+-- What is done with the records of a register, as laws.
+pub mod Turns
+pub mod Keys
+pub mod Changes
+pub mod Views

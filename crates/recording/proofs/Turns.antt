@@ -1,0 +1,95 @@
+-- What one more turn of a loop over the records adds: to a test, to a sum, to the ids of an actor.
+use mathlib.Core.Path.{_≡_, sym, _∙_, ap}
+use mathlib.Core.Bool.{Bool, true, false, cond, _&&_}
+use mathlib.Core.List.{List, [], _∷_, _++_, append-nil, append-assoc}
+use Prim.Native.Nat.{ℕ, suc, _+_, _/_, _%_, _≤_, _<_}
+use native.Mathlib.Omega.{arith}
+use native.Mathlib.Numerals.{add-one}
+use native.Mathlib.Decide.{le-ind}
+use lib.Dec.{eqb, leb, ltb}
+use lib.ListN.{length, getD, drop, set, length-append}
+use lib.Seq.{drop-cons, set-at}
+use Rattle.lists.specs.Tests.{allBelow}
+use Rattle.lists.specs.Sums.{sumTo}
+use Rattle.ledger.specs.Ledger.{movedBy}
+use Rattle.tables.specs.Tables.{Columns}
+use Rattle.recording.specs.Recording.{recAt, gainedAt, givenAt, partyIn, idsBelow}
+
+-- ---- tests and sums
+
+pub all-next : (f : ℕ → Bool) (i : ℕ) (b : Bool) → b ≡ allBelow f i → (f i && b) ≡ allBelow f (i + 1)
+all-next f i b e = rw (add-one i, e)
+
+sum-next : (f : ℕ → ℕ) (i g w : ℕ) → g ≡ sumTo i f → w ≡ f i → g + w ≡ sumTo (i + 1) f
+sum-next f i g w e k = rw (add-one i, e, k)
+
+-- one record more in what an actor acquires, and in what it cedes
+module _ (cols : Columns) (statuses : List ℕ) (market a s i sum term p : ℕ) (e : p ≡ movedBy s (recAt cols statuses 0 i)) where
+  pub gained-next : sum ≡ sumTo i (gainedAt cols statuses market a s) →
+      term ≡ cond (eqb (getD (cols .keys) i 0 / 64) market && eqb (getD (cols .keys) i 0 % 8) a) p 0 →
+      sum + term ≡ sumTo (i + 1) (gainedAt cols statuses market a s)
+  gained-next f g =
+      sum-next (gainedAt cols statuses market a s) i sum term f
+      (g ∙ ap (λ m. cond (eqb (getD (cols .keys) i 0 / 64) market && eqb (getD (cols .keys) i 0 % 8) a) m 0) e)
+
+  pub given-next : sum ≡ sumTo i (givenAt cols statuses market a s) →
+      term ≡ cond (eqb (getD (cols .keys) i 0 / 64) market && eqb (getD (cols .keys) i 0 / 8 % 8) a) p 0 →
+      sum + term ≡ sumTo (i + 1) (givenAt cols statuses market a s)
+  given-next f g =
+      sum-next (givenAt cols statuses market a s) i sum term f
+      (g ∙ ap (λ m. cond (eqb (getD (cols .keys) i 0 / 64) market && eqb (getD (cols .keys) i 0 / 8 % 8) a) m 0) e)
+
+-- ---- the power that a record moves
+
+module _ (q : Bool) (b c m n s p : ℕ) (e : b ≡ m) (f : c ≡ n) where
+  pub moved-there : (q && (leb b s && ltb s c)) ≡ true → p ≡ cond (q && (leb m s && ltb s n)) p 0
+  moved-there t = let u : (q && (leb m s && ltb s n)) ≡ true = rw (e, f) at t in rw u
+
+  pub moved-nothing : (q && (leb b s && ltb s c)) ≡ false → 0 ≡ cond (q && (leb m s && ltb s n)) p 0
+  moved-nothing t = let u : (q && (leb m s && ltb s n)) ≡ false = rw (e, f) at t in rw u
+
+-- ---- the ids of an actor's records
+
+module _ (keys ids : List ℕ) (a : ℕ) where
+  pub ids-add : (i : ℕ) → partyIn (getD keys i 0) a ≡ true → idsBelow keys ids (i + 1) a ≡ idsBelow keys ids i a ++ (getD ids i 0 ∷ [])
+  unfolding idsBelow
+  ids-add i t = rw (add-one i, t)
+
+  pub ids-keep : (i : ℕ) → partyIn (getD keys i 0) a ≡ false → idsBelow keys ids (i + 1) a ≡ idsBelow keys ids i a
+  unfolding idsBelow
+  ids-keep i t = rw (add-one i, t) (append-nil (idsBelow keys ids i a))
+
+  pub ids-count : (i : ℕ) → partyIn (getD keys i 0) a ≡ true → length (idsBelow keys ids (i + 1) a) ≡ length (idsBelow keys ids i a) + 1
+  ids-count i t = ap length (ids-add i t) ∙ length-append (idsBelow keys ids i a) (getD ids i 0 ∷ [])
+
+  pub ids-longer : (i : ℕ) → length (idsBelow keys ids i a) ≤ length (idsBelow keys ids (suc i) a)
+  unfolding idsBelow
+  ids-longer i =
+      omega (arith, length-append (idsBelow keys ids i a) (cond (partyIn (getD keys i 0) a) (getD ids i 0 ∷ []) []))
+
+  -- there are no more of them below a smaller bound
+  pub ids-least : (i n : ℕ) → i ≤ n → length (idsBelow keys ids i a) ≤ length (idsBelow keys ids n a)
+  ids-least i n h = le-ind (λ m. length (idsBelow keys ids i a) ≤ length (idsBelow keys ids m a)) (omega arith) step n h
+    where
+      step : (m : ℕ) → i ≤ m → length (idsBelow keys ids i a) ≤ length (idsBelow keys ids m a) →
+          length (idsBelow keys ids i a) ≤ length (idsBelow keys ids (suc m) a)
+      step m h l = omega (arith, ids-longer m)
+
+  -- a place is free while another one is to be put
+  pub ids-room : (i n room : ℕ) → i < n → length (idsBelow keys ids n a) ≤ room → partyIn (getD keys i 0) a ≡ true →
+      length (idsBelow keys ids i a) < room
+  ids-room i n room h r t = omega (arith, ids-count i t, ids-least (i + 1) n (omega arith))
+
+-- one id more in a buffer that holds the ids from its beginning
+pub put-next : (out old xs : List ℕ) (at v : ℕ) → at ≡ length xs → at < length old → out ≡ xs ++ drop at old →
+    set out at v ≡ xs ++ (v ∷ []) ++ drop (at + 1) old
+put-next out old xs at v e h o =
+    let d : out ≡ xs ++ (getD old at 0 ∷ drop (at + 1) old) = rw (o, add-one at, drop-cons old at 0 h) in
+    rw (d, set-at xs (getD old at 0) (drop (at + 1) old) v at (sym e)) (sym (append-assoc xs (v ∷ []) (drop (at + 1) old)))
+
+-- one record more of which the actor is a party
+pub put-turn : (keys ids out old : List ℕ) (a i at : ℕ) → partyIn (getD keys i 0) a ≡ true → at ≡ length (idsBelow keys ids i a) →
+    at < length old → out ≡ idsBelow keys ids i a ++ drop at old →
+    set out at (getD ids i 0) ≡ idsBelow keys ids (i + 1) a ++ drop (at + 1) old
+put-turn keys ids out old a i at t e h o =
+    rw (ids-add keys ids a i t) (put-next out old (idsBelow keys ids i a) at (getD ids i 0) e h o)

@@ -1,0 +1,62 @@
+-- `adding::moved_by` meets its contract: the test of the code is the ledger's.
+use borrow.Author.Needs.{needs}
+use mathlib.Core.Path.{_∙_}
+use mathlib.Core.Bool.{_||_}
+use native.Mathlib.Omega.{arith}
+use lib.Dec.{eqb}
+use lib.ListN.{getD}
+use Rattle.ledger.specs.Statuses.{validated, updated}
+use Rattle.recording.proofs.Turns.{moved-there, moved-nothing}
+use Rattle.recording.proofs.adding.moved_by.Statement.{statement}
+use Rattle.recording.proofs.adding.moved_by.Tie as tie
+
+array-read-byte : tie.Need-array-read-byte
+array-read-byte c = search needs
+
+byte-requires : tie.Need-byte-requires
+byte-requires c κs = search needs
+
+array-read-byte-2 : tie.Need-array-read-byte-2
+array-read-byte-2 c = search needs
+
+byte-requires-2 : tie.Need-byte-requires-2
+byte-requires-2 c κs = search needs
+
+mul-wide : tie.Need-mul-wide
+mul-wide c = search needs
+
+array-read-wide : tie.Need-array-read-wide
+array-read-wide c = search needs
+
+wide-requires : tie.Need-wide-requires
+wide-requires c κs = search needs
+
+returns : tie.Need-returns
+returns c =
+    let p = c .before .before .before .before .args in (
+      c .wide .ensures .0 ∙ moved-there (eqb (p .status) validated || eqb (p .status) updated) _ _ _ _ (p .s) _
+          (c .before .before .before .byte .ensures .0) (c .before .before .byte2 .ensures .0) (c .before .if1 .taken),
+      c .wide .ensures .1,
+    )
+
+returns-2 : tie.Need-returns-2
+returns-2 c =
+    let p = c .before .before .before .args in (
+      moved-nothing (eqb (p .status) validated || eqb (p .status) updated) _ _ _ _ (p .s) (getD (p .t4) (p .s) 0)
+          (c .before .before .byte .ensures .0) (c .before .byte2 .ensures .0) (c .if1 .left),
+      omega arith,
+    )
+
+pub moved-by-spec : {M : Type 1} → statement M
+moved-by-spec =
+    tie.close
+    (tie.spec
+    array-read-byte
+    byte-requires
+    array-read-byte-2
+    byte-requires-2
+    mul-wide
+    array-read-wide
+    wide-requires
+    returns
+    returns-2)

@@ -1,0 +1,2 @@
+-- What is done with the records of a register.
+pub mod Recording

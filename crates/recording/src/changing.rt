@@ -1,0 +1,150 @@
+// What a filing makes of the records before it (rules 1 to 3).
+ghost use mathlib.Core.Path.{_≡_};
+ghost use Prim.Native.Nat.{ℕ, _<_, _≤_, _/_};
+ghost use lib.ListN.{length, getD};
+ghost use Rattle.calendar.specs.Clocks.{firstCounted};
+ghost use Rattle.calendar.specs.declared.clock.Clock.{Clock};
+ghost use Rattle.ledger.specs.Filing.{changed};
+ghost use Rattle.tables.specs.Tables.{keyIn};
+ghost use Rattle.recording.specs.Recording.{recOf, ChangedAt, Changed};
+use crate::pairing::same_powers;
+use calendar::Clock;
+use tables::records::ANSWERED;
+use tables::records::CREATED;
+use tables::records::DELETED;
+use tables::records::OBSOLETE;
+use tables::records::UPDATED;
+use tables::records::VALIDATED;
+use tables::records::byte;
+
+// A record's status and until-step.
+pub struct Change {
+    pub status: u8,
+    pub until: u8,
+}
+
+// What a filing from a first step, under its own key, makes of a record of that key.
+fn change_of(
+    paired: bool,
+    clock: Clock,
+    by: u32,
+    own: u32,
+    ps: [u16; 50],
+    status: u8,
+    mark: [u8; 4],
+    row: [u16; 50],
+) -> Change
+    requires { ⌜ firstCounted clock (own / 256) < 256 ⌝ }
+    ensures { λ r. ⌜ ((id : ℕ) → (r .status ≡ changed paired clock by (keyIn own) ps (recOf id status own mark row) .status) × (r .until ≡ changed paired clock by (keyIn own) ps (recOf id status own mark row) .until)) ⌝ }
+{
+    let until = mark[2];
+    if status == CREATED {
+        if byte(mark[0]) == by {
+            return Change {
+                status: DELETED,
+                until: until,
+            };
+        }
+        if paired & same_powers(row, ps) {
+            return Change {
+                status: ANSWERED,
+                until: until,
+            };
+        }
+        return Change {
+            status: status,
+            until: until,
+        };
+    }
+    if paired & (status == VALIDATED) {
+        let day = own / 256;
+        let first = clock.first_counted(day);
+        if (byte(mark[1]) == first) | (clock.day < day) {
+            return Change {
+                status: OBSOLETE,
+                until: until,
+            };
+        }
+        return Change {
+            status: UPDATED,
+            until: first as u8,
+        };
+    }
+    Change {
+        status: status,
+        until: until,
+    }
+}
+
+// A mark with another until-step.
+fn with_until(mark: [u8; 4], until: u8) -> [u8; 4]
+    ensures { λ r. ⌜ (getD r 0 0 ≡ getD mark 0 0) × (getD r 1 0 ≡ getD mark 1 0) × (getD r 2 0 ≡ until) ⌝ }
+{
+    [mark[0], mark[1], until, mark[3]]
+}
+
+// What a filing makes of record i: its status and until-step.
+fn change_at(
+    statuses: &mut [u8; 256],
+    keys: &[u32; 256],
+    marks: &mut [[u8; 4]; 256],
+    rows: &[[u16; 50]; 256],
+    i: u32,
+    paired: bool,
+    clock: Clock,
+    by: u32,
+    own: u32,
+    ps: [u16; 50],
+)
+    requires { ⌜ (i < 256) × (firstCounted clock (own / 256) < 256) ⌝ }
+    ensures { λ r. ⌜ ChangedAt paired clock by own ps i (record { keys = now (keys .entry); marks = now (marks .entry); rows = now (rows .entry) }) (record { keys = now (keys .entry); marks = now (marks .exit); rows = now (rows .entry) }) (now (statuses .entry)) (now (statuses .exit)) ⌝ }
+{
+    let at = i as usize;
+    if keys[at] == own {
+        let mark = marks[at];
+        let row = rows[at];
+        let change = change_of(paired, clock, by, own, ps, statuses[at], mark, row);
+        let next = with_until(mark, change.until);
+        statuses[at] = change.status;
+        marks[at] = next;
+    }
+}
+
+// How many statuses there are, and how many marks.
+fn statuses_long(s: &[u8]) -> usize
+    ensures { λ r. ⌜ r ≡ length (now (s .entry)) ⌝ }
+{
+    s.len()
+}
+
+fn marks_long(s: &[[u8; 4]]) -> usize
+    ensures { λ r. ⌜ r ≡ length (now (s .entry)) ⌝ }
+{
+    s.len()
+}
+
+// What a filing makes of the first n records: their statuses and until-steps.
+pub fn change_all(
+    statuses: &mut [u8; 256],
+    keys: &[u32; 256],
+    marks: &mut [[u8; 4]; 256],
+    rows: &[[u16; 50]; 256],
+    n: u32,
+    paired: bool,
+    clock: Clock,
+    by: u32,
+    own: u32,
+    ps: [u16; 50],
+)
+    requires { ⌜ (n ≤ 256) × (firstCounted clock (own / 256) < 256) ⌝ }
+    ensures { λ r. ⌜ Changed paired clock by own ps n (record { keys = now (keys .entry); marks = now (marks .entry); rows = now (rows .entry) }) (record { keys = now (keys .entry); marks = now (marks .exit); rows = now (rows .entry) }) (now (statuses .entry)) (now (statuses .exit)) ⌝ }
+{
+    // Lent as slices, the columns show that they have 256 places.
+    let places = statuses_long(statuses);
+    let mark_places = marks_long(marks);
+    let mut i: u32 = 0;
+    while i < n {
+        change_at(statuses, keys, marks, rows, i, paired, clock, by, own, ps);
+        i += 1;
+    }
+}
