@@ -12,7 +12,3 @@ pub mod Bodies
 pub mod Tables
 pub mod TwoWays
 pub mod Tested
-pub mod Placed
-pub mod Pieces
-pub mod StepLines
-pub mod Answers

@@ -2,4 +2,3 @@
 pub mod Forms
 pub mod Writing
 pub mod Reading
-pub mod Placing

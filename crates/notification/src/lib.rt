@@ -1,9 +1,5 @@
 // The notification file (document 01, "The notification file"): what it says, its reader and its writer.
-pub mod checks;
 pub mod forms;
-mod placing;
-mod step_line;
-pub mod writing;
 
 use refusals::Refusal;
 use refusals::Verdict;

@@ -1,0 +1,5 @@
+-- What is true of the pieces of a written file.
+pub mod Placed
+pub mod StepLines
+pub mod Pieces
+pub mod Answers

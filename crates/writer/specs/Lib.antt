@@ -1,0 +1,2 @@
+-- What the pieces of a written file are.
+pub mod Placing
