@@ -6,12 +6,12 @@ ghost use lib.ListN.{length, take, drop};
 ghost use Rattle.lists.specs.Searches.{every};
 ghost use Rattle.notification.specs.Forms.{categoryText, powerEnd, allZero};
 ghost use Rattle.notification.specs.Writing.{formed, ranged};
+use calendar::DAYS;
+use calendar::steps_of;
 use notification::Key;
 use notification::Notification;
 use notification::forms::is_category;
 use notification::forms::is_code;
-use calendar::DAYS;
-use calendar::steps_of;
 
 // The least number that is no power.
 const POWER_END: u16 = 10000;

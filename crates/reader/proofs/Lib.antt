@@ -1,0 +1,12 @@
+-- What is true of reading a file.
+pub mod Figures
+pub mod Starts
+pub mod Judging
+pub mod Taking
+pub mod Ends
+pub mod Tallies
+pub mod Sixes
+pub mod KeyParts
+pub mod Frames
+pub mod Headers
+pub mod Table

@@ -1,0 +1,55 @@
+-- As long as the loop runs, the bytes passed are copied.
+use borrow.Author.Needs.{needs}
+use mathlib.Core.Path.{_≡_, refl, _∙_}
+use Prim.Native.Nat.{_-_, _≤_}
+use native.Mathlib.Omega.{arith}
+use lib.ListN.{length, take, length-set}
+use Rattle.reader.proofs.Sixes.{copy-more, copy-all}
+use Rattle.reader.proofs.keys.sixteen.Statement.{statement}
+use Rattle.reader.proofs.keys.sixteen.Tie as tie
+
+abbrev Inv-loop : tie.InvT-loop
+Inv-loop s code₀ i₀ code i = (i ≤ 16) × (length code ≡ 16) × (take i code ≡ take i s)
+
+abbrev μ-loop : tie.MeasureT-loop
+μ-loop s code₀ i₀ code i = 16 - i
+
+loop-holds : tie.Need-loop-holds Inv-loop μ-loop
+loop-holds c = (omega arith, refl, refl)
+
+shared-slice-read-code : tie.Need-shared-slice-read-code Inv-loop μ-loop
+shared-slice-read-code c = search needs
+
+array-write-code : tie.Need-array-write-code Inv-loop μ-loop
+array-write-code c = search needs
+
+add-i : tie.Need-add-i Inv-loop μ-loop
+add-i c = search needs
+
+loop-less : tie.Need-loop-less Inv-loop μ-loop
+loop-less c = search needs
+
+loop-again : tie.Need-loop-again Inv-loop μ-loop
+loop-again c =
+    let l = c .before .before .loop in
+    let s = c .before .before .before .args .s .now in
+    (omega arith, simp length-set (l .inv .1), copy-more (l .code) s (l .i) (omega arith) (omega arith) (l .inv .2))
+
+returns : tie.Need-returns Inv-loop μ-loop
+returns c =
+    let l = c .before .loop in
+    copy-all (l .code) (c .before .before .args .s .now) (l .i) 16 (c .loop-test .left) (l .inv .1) (c .before .before .pre) (l .inv .2)
+
+pub sixteen-spec : {M : Type 1} → statement M
+sixteen-spec =
+    tie.close
+    (tie.spec
+    Inv-loop
+    μ-loop
+    loop-holds
+    shared-slice-read-code
+    array-write-code
+    add-i
+    loop-less
+    loop-again
+    returns)

@@ -1,0 +1,3 @@
+-- What the parts of reading a file mean.
+pub mod Walking
+pub mod Parts

@@ -1,0 +1,5 @@
+// The reader of the notification file (document 01, "The notification file").
+mod keys;
+mod power;
+pub mod reading;
+mod tally;

@@ -1,0 +1,86 @@
+// A power and `;`: "A power has no sign and no needless zero."
+ghost use mathlib.Core.Path.{_≡_};
+ghost use Prim.Native.Nat.{_+_, _≤_};
+ghost use lib.ListN.{length, getD};
+ghost use Rattle.reader.specs.Walking.{digitValue, powerOf};
+
+// What bytes begin with: a power and `;`, with how many bytes these are, or no power.
+pub enum Power {
+    Is(u16, usize),
+    Not,
+}
+
+// The byte at a place, and 0 past the end.
+pub(crate) fn byte_at(s: &[u8], i: usize) -> u8
+    ensures { λ r. ⌜ r ≡ getD (now (s .entry)) i 0 ⌝ }
+{
+    if i < s.len() { s[i] } else { 0 }
+}
+
+// What a digit stands for, and 10 where a byte is no digit.
+fn digit_value(b: u8) -> u16
+    ensures { λ r. ⌜ r ≡ digitValue b ⌝ }
+{
+    if b < b'0' {
+        return 10;
+    }
+    if b'9' < b {
+        return 10;
+    }
+    (b - b'0') as u16
+}
+
+// The power and `;` that five bytes begin with: one digit, or up to four that begin with no 0.
+fn power_of(a: u8, b: u8, c: u8, d: u8, e: u8) -> Power
+    ensures { λ r. ⌜ r ≡ powerOf a b c d e ⌝ }
+{
+    let one = digit_value(a);
+    if 9 < one {
+        return Power::Not;
+    }
+    if b == b';' {
+        return Power::Is(one, 2);
+    }
+    let next = digit_value(b);
+    if 9 < next {
+        return Power::Not;
+    }
+    if one == 0 {
+        return Power::Not;
+    }
+    let two = one * 10 + next;
+    if c == b';' {
+        return Power::Is(two, 3);
+    }
+    let next = digit_value(c);
+    if 9 < next {
+        return Power::Not;
+    }
+    let three = two * 10 + next;
+    if d == b';' {
+        return Power::Is(three, 4);
+    }
+    let next = digit_value(d);
+    if 9 < next {
+        return Power::Not;
+    }
+    if e == b';' {
+        Power::Is(three * 10 + next, 5)
+    } else {
+        Power::Not
+    }
+}
+
+// The power and `;` at a place.
+pub(crate) fn power_at(s: &[u8], a: usize) -> Power
+    requires { ⌜ a ≤ length (now s) ⌝ }
+    ensures { λ r. ⌜ r ≡ powerOf (getD (now (s .entry)) a 0) (getD (now (s .entry)) (a + 1) 0) (getD (now (s .entry)) (a + 2) 0) (getD (now (s .entry)) (a + 3) 0) (getD (now (s .entry)) (a + 4) 0) ⌝ }
+{
+    power_of(
+        byte_at(s, a),
+        byte_at(s, a + 1),
+        byte_at(s, a + 2),
+        byte_at(s, a + 3),
+        byte_at(s, a + 4),
+    )
+}
