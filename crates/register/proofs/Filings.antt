@@ -1,0 +1,167 @@
+-- A filing's tests by its places: they are the ledger's, tried in parts, and what passes them can be recorded.
+use mathlib.Core.Path.{_≡_, refl, sym, ap, _∙_}
+use mathlib.Core.Bool.{Bool, false, cond, not}
+use mathlib.Core.List.{List, [], _∷_, _++_}
+use Prim.Native.Nat.{ℕ, _≤_, _<_, min}
+use native.Mathlib.Omega.{arith}
+use lib.Dec.{ltb}
+use lib.ListN.{length, take, drop, length-map, length-take}
+use borrow.Author.Tests.{ltb-true, eqb-false, not-false}
+use Rattle.calendar.specs.Steps.{stepsOf}
+use Rattle.calendar.specs.Clocks.{firstCounted}
+use Rattle.calendar.proofs.StepCounts.{steps-day}
+use Rattle.refusals.specs.Tests.{Test, firstMet, state}
+use Rattle.refusals.specs.declared.Refusal.{Refusal}
+use Rattle.refusals.specs.declared.Verdict.the-variants.{Pass, No}
+use Rattle.refusals.specs.declared.StateRefusal.the-variants.{Full}
+use Rattle.refusals.proofs.Tests.{pass-first, pass-rest, pass-all, pass-append, refuse-append}
+use Rattle.notification.specs.declared.Notification.{Notification}
+use Rattle.ledger.specs.Ledger.{Key, Ledger, recordPlaces, actorAt}
+use Rattle.ledger.specs.Filing.{keyOf, filingTests}
+use Rattle.tables.specs.Tables.{Columns, actorsIn, categoriesIn, recordIn, recordsIn}
+use Rattle.tables.specs.declared.actors.Actors.{Actors}
+use Rattle.tables.specs.declared.categories.Categories.{Categories}
+use Rattle.tables.specs.declared.records.Records.{Records}
+use Rattle.tables.proofs.Down.{down-length}
+use Rattle.register.specs.declared.Head.{Head}
+use Rattle.register.specs.declared.verdicts.Places.{Places}
+use Rattle.register.specs.View.{view}
+use Rattle.register.specs.Judging.{keyAt, partyTests, stepTests, placeTests, Judgeable, Fileable}
+
+-- ---- the ledger's tests are those by places
+
+pub filing-places : (l : Ledger) (submitter : List ℕ) (n : Notification) →
+    filingTests l submitter n ≡ placeTests l (keyOf l n) (actorAt (l .actors) submitter) (n .powers)
+unfolding filingTests placeTests partyTests stepTests
+filing-places l submitter n = refl
+
+-- ---- in parts: 20 to 25, 26 to 31, 32 to 35, 36
+
+abbrev pub fullTest : Ledger → Test
+fullTest l = (not (ltb (length (l .records)) recordPlaces), state Full)
+
+module _ (l : Ledger) (k : Key) (by : ℕ) (ps : List ℕ) where
+  in-parts : placeTests l k by ps ≡ take 6 (partyTests l k by) ++ (drop 6 (partyTests l k by) ++ (stepTests l k ps ++ (fullTest l ∷ [])))
+  unfolding placeTests partyTests
+  in-parts = refl
+
+  pub refused-20 : (r : Refusal) → firstMet (take 6 (partyTests l k by)) ≡ No r → firstMet (placeTests l k by ps) ≡ No r
+  refused-20 r e = ap firstMet in-parts ∙ refuse-append r (take 6 (partyTests l k by)) (drop 6 (partyTests l k by) ++ (stepTests l k ps ++ (fullTest l ∷ []))) e
+
+  module _ (parties : firstMet (take 6 (partyTests l k by)) ≡ Pass) where
+    from-26 : firstMet (placeTests l k by ps) ≡ firstMet (drop 6 (partyTests l k by) ++ (stepTests l k ps ++ (fullTest l ∷ [])))
+    from-26 = ap firstMet in-parts ∙ pass-append (take 6 (partyTests l k by)) (drop 6 (partyTests l k by) ++ (stepTests l k ps ++ (fullTest l ∷ []))) parties
+
+    pub refused-26 : (r : Refusal) → firstMet (drop 6 (partyTests l k by)) ≡ No r → firstMet (placeTests l k by ps) ≡ No r
+    refused-26 r e = from-26 ∙ refuse-append r (drop 6 (partyTests l k by)) (stepTests l k ps ++ (fullTest l ∷ [])) e
+
+    module _ (days : firstMet (drop 6 (partyTests l k by)) ≡ Pass) where
+      from-32 : firstMet (placeTests l k by ps) ≡ firstMet (stepTests l k ps ++ (fullTest l ∷ []))
+      from-32 = from-26 ∙ pass-append (drop 6 (partyTests l k by)) (stepTests l k ps ++ (fullTest l ∷ [])) days
+
+      pub refused-32 : (r : Refusal) → firstMet (stepTests l k ps) ≡ No r → firstMet (placeTests l k by ps) ≡ No r
+      refused-32 r e = from-32 ∙ refuse-append r (stepTests l k ps) (fullTest l ∷ []) e
+
+      pub from-36 : firstMet (stepTests l k ps) ≡ Pass → firstMet (placeTests l k by ps) ≡ firstMet (fullTest l ∷ [])
+      from-36 e = from-32 ∙ pass-append (stepTests l k ps) (fullTest l ∷ []) e
+
+-- where one list after another passes, each passes
+pass-left : (ts us : List Test) → firstMet (ts ++ us) ≡ Pass → firstMet ts ≡ Pass
+pass-left [] us e = refl
+pass-left (t ∷ ts) us e = rw (pass-first (t .0) (t .1) (ts ++ us) e) (pass-left ts us (pass-rest (t .0) (t .1) (ts ++ us) e))
+
+pass-right : (ts us : List Test) → firstMet (ts ++ us) ≡ Pass → firstMet us ≡ Pass
+pass-right ts us e = sym (pass-append ts us (pass-left ts us e)) ∙ e
+
+-- ---- what the tables can hold
+
+actors-few : (x : Actors) → length (actorsIn x) ≤ 8
+unfolding actorsIn
+actors-few x = omega (arith, length-take (min (x .count) 8) (x .entries))
+
+categories-few : (x : Categories) → length (categoriesIn x) ≤ 4
+unfolding categoriesIn
+categories-few x = rw length-map (omega (arith, length-take (min (x .count) 4) (x .entries)))
+
+pub records-many : (x : Records) (cols : Columns) → length (recordsIn x cols) ≡ min (x .count) 256
+unfolding recordsIn
+records-many x cols = down-length (recordIn x cols) (min (x .count) 256)
+
+-- ---- 36, by the register's own count
+
+pub full-is : (h : Head) (cols : Columns) (loads : List (List ℕ)) (n : ℕ) (t : Bool) → n ≡ min (h .records .count) 256 → not (ltb n 256) ≡ t →
+    cond t (No (state Full)) Pass ≡ firstMet (fullTest (view h cols loads) ∷ [])
+unfolding view
+full-is h cols loads n t e f = rw (records-many (h .records) cols, ← e, f)
+
+-- ---- what the tests leave
+
+-- a place that passed is below a length
+passed-place : (a n : ℕ) → not (ltb a n) ≡ false → a < n
+passed-place a n e = ltb-true a n (not-false (ltb a n) e)
+
+-- what 20 to 25 leave: places of those enrolled, two actors
+pub record Enrolled (h : Head) (at : Places) : Type 0 where
+  pub ceder : at .ceder < length (actorsIn (h .actors))
+  pub acquirer : at .acquirer < length (actorsIn (h .actors))
+  pub submitter : at .submitter < length (actorsIn (h .actors))
+  pub category : at .category < 4
+  pub apart : at .ceder ≡ at .acquirer → ⊥
+
+module _ (h : Head) (cols : Columns) (loads : List (List ℕ)) (at : Places) where
+  pub enrolled-of : firstMet (take 6 (partyTests (view h cols loads) (keyAt at) (at .submitter))) ≡ Pass → Enrolled h at
+  unfolding partyTests view
+  enrolled-of e =
+      let f = pass-all (take 6 (partyTests (view h cols loads) (keyAt at) (at .submitter))) e in
+      let z : at .category < length (categoriesIn (h .categories)) = passed-place _ _ (f .1 .1 .1 .0) in
+      record {
+        ceder = passed-place _ _ (f .0);
+        acquirer = passed-place _ _ (f .1 .0);
+        submitter = passed-place _ _ (f .1 .1 .0);
+        category = omega (arith, categories-few (h .categories));
+        apart = eqb-false _ _ (f .1 .1 .1 .1 .1 .0);
+      }
+
+  counted-of : firstMet (drop 6 (partyTests (view h cols loads) (keyAt at) (at .submitter))) ≡ Pass → firstCounted (h .clock) (at .day) < stepsOf (at .day)
+  unfolding partyTests view
+  counted-of e =
+      let f = pass-all (drop 6 (partyTests (view h cols loads) (keyAt at) (at .submitter))) e in passed-place _ _ (f .1 .1 .0)
+
+  -- 20 to 31 leave the same of the head with any columns
+  pub judgeable-of : firstMet (take 6 (partyTests (view h cols loads) (keyAt at) (at .submitter))) ≡ Pass →
+      firstMet (drop 6 (partyTests (view h cols loads) (keyAt at) (at .submitter))) ≡ Pass →
+      (other : Columns) (rows : List (List ℕ)) → Judgeable (view h other rows) at
+  unfolding view
+  judgeable-of e d other rows =
+      let p = enrolled-of e in
+      let few = actors-few (h .actors) in
+      let c = counted-of d in
+      record {
+        ceder = omega (arith, p .ceder);
+        acquirer = omega (arith, p .acquirer);
+        submitter = omega (arith, p .submitter);
+        category = p .category;
+        day = steps-day (at .day) (omega arith);
+        apart = p .apart;
+        counted = c;
+      }
+
+  room-of : not (ltb (length (view h cols loads .records)) recordPlaces) ≡ false → (other : Columns) (rows : List (List ℕ)) →
+      length (view h other rows .records) < recordPlaces
+  unfolding view
+  room-of f other rows =
+      omega (arith, passed-place (length (recordsIn (h .records) cols)) recordPlaces f, records-many (h .records) cols, records-many (h .records) other)
+
+  -- and 20 to 36 a free place
+  pub fileable-of : (ps : List ℕ) → firstMet (placeTests (view h cols loads) (keyAt at) (at .submitter) ps) ≡ Pass →
+      (other : Columns) (rows : List (List ℕ)) → Fileable (view h other rows) at
+  fileable-of ps e other rows =
+      let l = view h cols loads in
+      let k = keyAt at in
+      let e₁ = sym (ap firstMet (in-parts l k (at .submitter) ps)) ∙ e in
+      let p₁ = pass-left (take 6 (partyTests l k (at .submitter))) _ e₁ in
+      let e₂ = pass-right (take 6 (partyTests l k (at .submitter))) _ e₁ in
+      let p₂ = pass-left (drop 6 (partyTests l k (at .submitter))) _ e₂ in
+      let e₃ = pass-right (drop 6 (partyTests l k (at .submitter))) _ e₂ in
+      let e₄ = pass-right (stepTests l k ps) (fullTest l ∷ []) e₃ in
+      record { judgeable = judgeable-of p₁ p₂ other rows; room = room-of (pass-first (fullTest l .0) (fullTest l .1) [] e₄) other rows }

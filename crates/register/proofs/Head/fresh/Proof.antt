@@ -1,0 +1,22 @@
+-- `Head::fresh` meets its contract: every count is 0.
+use mathlib.Core.Path.{ap}
+use mathlib.Core.List.{[]}
+use Rattle.calendar.specs.declared.clock.Clock.{Clock}
+use Rattle.tables.specs.Tables.{actorsIn, categoriesIn, loadsIn, recordsIn}
+use Rattle.ledger.specs.Ledger.{Ledger}
+use Rattle.register.specs.View.{view}
+use borrow.Author.Needs.{needs}
+use Rattle.register.proofs.Head.fresh.Statement.{statement}
+use Rattle.register.proofs.Head.fresh.Tie as tie
+
+fresh-requires : tie.Need-fresh-requires
+fresh-requires c κs = search needs
+
+returns : tie.Need-returns
+unfolding view actorsIn categoriesIn loadsIn recordsIn
+returns c =
+    let held : Clock → Ledger = λ t. record { clock = t; actors = []; categories = []; loads = []; records = [] } in
+    λ cols loads. ap held (c .fresh .ensures)
+
+pub fresh-spec : {M : Type 1} → statement M
+fresh-spec = tie.close (tie.spec fresh-requires returns)
