@@ -17,29 +17,23 @@ use Rattle.reader.specs.declared.power.Power.the-variants.{Is, Not}
 
 -- ---- a digit
 
-pub value-below : (b : ℕ) → b < 48 → 10 ≡ digitValue b
+pub value-below : (b : ℕ) → b < 48 → b + 4294967248 ≡ digitValue b
 unfolding digitValue
-value-below b h = rw (lt-leb 48 b h)
+value-below b h = rw (lt-ltb b 48 h)
 
-pub value-above : (b : ℕ) → 57 < b → 10 ≡ digitValue b
+pub value-from : (b : ℕ) → 48 ≤ b → b - 48 ≡ digitValue b
 unfolding digitValue
-value-above b h = let k : 48 ≤ b = omega arith in rw (le-leb 48 b k, lt-leb b 57 h)
-
-pub value-within : (b : ℕ) → 48 ≤ b → b ≤ 57 → b - 48 ≡ digitValue b
-unfolding digitValue
-value-within b h k = rw (le-leb 48 b h, le-leb b 57 k)
+value-from b h = rw (le-ltb b 48 h)
 
 -- a value of a digit comes from its byte
 value-byte : (b : ℕ) → digitValue b ≤ 9 → b ≡ 48 + digitValue b
 value-byte b h =
     by-test (ltb b 48)
     (λ t. absurd (omega (arith, value-below b (ltb-true b 48 t))))
-    (λ t. by-test (ltb 57 b)
-    (λ u. absurd (omega (arith, value-above b (ltb-true 57 b u))))
-    (λ u. omega (arith, value-within b (ltb-false b 48 t) (ltb-false 57 b u), ltb-false b 48 t)))
+    (λ t. omega (arith, value-from b (ltb-false b 48 t), ltb-false b 48 t))
 
 digit-value : (d : ℕ) → d < 10 → digitValue (48 + d) ≡ d
-digit-value d h = let e = value-within (48 + d) (omega arith) (omega arith) in omega arith
+digit-value d h = let e = value-from (48 + d) (omega arith) in omega arith
 
 -- ---- the ways through five bytes, as a reader goes them
 
@@ -267,3 +261,8 @@ power-found v rest h =
         let e : ((v / 1000 * 10 + v / 100 % 10) * 10 + v / 10 % 10) * 10 + v % 10 ≡ v = omega arith in
         let r = four-digits (48 + v / 1000) (48 + v / 100 % 10) (48 + v / 10 % 10) (48 + v % 10) 59 (v / 1000) (v / 100 % 10) (sym (digit-value (v / 1000) p)) (omega arith) (λ (z : 48 + v / 100 % 10 ≡ 59). omega arith) (sym (digit-value (v / 100 % 10) q)) (omega arith) (λ (z : v / 1000 ≡ 0). omega arith) (λ (z : 48 + v / 10 % 10 ≡ 59). omega arith) (v / 10 % 10) (sym (digit-value (v / 10 % 10) o)) (omega arith) (λ (z : 48 + v % 10 ≡ 59). omega arith) (v % 10) (sym (digit-value (v % 10) m)) (omega arith) refl in
         rw (digits-four v k) (sym (rw e at r))
+
+pub power-few : (a b c d e v n : ℕ) → powerOf a b c d e ≡ Is v n → (2 ≤ n) × (n ≤ 5)
+power-few a b c d e v n p =
+    let t : Text (a ∷ b ∷ c ∷ d ∷ e ∷ []) v n = rw p at (says a b c d e) in
+    (t .least, t .most)

@@ -10,3 +10,4 @@ pub mod KeyParts
 pub mod Frames
 pub mod Headers
 pub mod Table
+pub mod Marking

@@ -1,15 +1,17 @@
 -- What one line adds to what is kept, by what the line says.
 use mathlib.Core.Path.{_≡_, refl, sym, ap, _∙_}
-use mathlib.Core.Bool.{Bool, true, false, cond, not, _&&_, _||_}
+use mathlib.Core.Bool.{Bool, true, false, cond, not, _&&_, _||_, false≢true}
 use mathlib.Core.List.{List, [], _∷_, _++_}
 use Prim.Native.Nat.{ℕ, zero, suc, _+_, _-_, _<_, _≤_}
 use native.Mathlib.Omega.{arith}
 use lib.Dec.{leb, ltb, eqb}
 use lib.ListN.{length, set}
-use borrow.Author.Tests.{leb-false}
+use borrow.Author.Tests.{leb-false, not-false}
 use Rattle.lists.proofs.Tests.{or-left, or-right}
 use Rattle.refusals.specs.declared.Refusal.the-variants.{Input}
 use Rattle.refusals.specs.declared.InputRefusal.the-variants.{Labels, Power}
+use Rattle.refusals.specs.declared.Verdict.{Verdict}
+use Rattle.refusals.specs.declared.Verdict.the-variants.{Pass, No}
 use Rattle.reader.specs.Walking.{Taken, isPass, counted, faulted, credited, judged, linePower, takeLine}
 use Rattle.reader.specs.declared.tally.LinePower.{LinePower}
 use Rattle.reader.specs.declared.tally.LinePower.the-variants.{Gives, NoLabels, NoPower}
@@ -43,3 +45,11 @@ module _ (steps : ℕ) (t : Tally) (ps line : List ℕ) (p : Bool) (e : p ≡ is
 
     pub take-no-power : l ≡ NoPower → r ≡ faulted t (Input Power (t .lines + 2)) → record { tally = r; powers = ps } ≡ takeLine steps x line
     take-no-power g q = rw q (sym (ap (judged x) g) ∙ next)
+
+-- where the tests of the lines are not over there was no fault
+pass-of : (v : Verdict) → isPass v ≡ true → v ≡ Pass
+pass-of Pass e = refl
+pass-of (No r) e = absurd (false≢true e)
+
+pub still-pass : (steps k : ℕ) (p : Bool) (v : Verdict) → p ≡ isPass v → over steps p k ≡ false → v ≡ Pass
+still-pass steps k p v e o = pass-of v (sym e ∙ not-false p (or-left (not p) (leb steps k) o))

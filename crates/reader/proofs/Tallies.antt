@@ -75,12 +75,12 @@ fault-stays steps x r (l ∷ ls) e =
     let y : Taken = record { tally = counted (x .tally); powers = x .powers } in
     ap (λ (z : Taken). z .tally .verdict) (takes-cons steps x y l ls (line-over steps x r l e)) ∙ fault-stays steps y r ls e
 
-or-zero : (a b c : Bool) → ((a || not b) || not c) ≡ (a || not (b && c))
+pub or-zero : (a b c : Bool) → ((a || not b) || not c) ≡ (a || not (b && c))
 or-zero true b c = refl
 or-zero false true c = refl
 or-zero false false c = refl
 
-or-none : (a : Bool) → a ≡ (a || false)
+pub or-none : (a : Bool) → a ≡ (a || false)
 or-none true = refl
 or-none false = refl
 

@@ -2,18 +2,20 @@
 use mathlib.Core.Path.{_≡_}
 use mathlib.Core.Bool.{Bool, true, false, cond, not, _&&_, _||_}
 use mathlib.Core.List.{List, [], _∷_, _++_}
-use Prim.Native.Nat.{ℕ, zero, suc, _+_, _-_, _*_, _<_, _≤_, min}
+use Prim.Native.Nat.{ℕ, zero, suc, _+_, _-_, _*_, _/_, _%_, _<_, _≤_, min}
 use lib.Dec.{leb, ltb, eqb}
 use lib.ListN.{length, getD, take, drop, set, replicate}
 use Rattle.lists.specs.Searches.{every, same}
+use Rattle.calendar.specs.Steps.{plainSteps}
+use Rattle.calendar.specs.Labels.{turnOf}
 use Rattle.refusals.specs.Tests.{input, decide}
 use Rattle.refusals.specs.declared.Refusal.{Refusal}
 use Rattle.refusals.specs.declared.Refusal.the-variants.{Input}
 use Rattle.refusals.specs.declared.InputRefusal.the-variants.{Lines, Labels, Power, Zeros}
 use Rattle.refusals.specs.declared.Verdict.{Verdict}
 use Rattle.refusals.specs.declared.Verdict.the-variants.{Pass, No}
-use Rattle.notification.specs.Forms.{isDigit, places}
-use Rattle.notification.specs.Reading.{hasLabels, restOf, valueOf, isPower, accepted, refused}
+use Rattle.notification.specs.Forms.{places}
+use Rattle.notification.specs.Reading.{linesIn, hasLabels, restOf, valueOf, isPower, accepted, refused}
 use Rattle.notification.specs.declared.Key.{Key}
 use Rattle.notification.specs.declared.Reading.{Reading}
 use Rattle.reader.specs.declared.power.Power.{Power as PowerRead}
@@ -26,9 +28,9 @@ use Rattle.reader.specs.declared.tally.Tally.{Tally}
 unfoldable pub startsWith : List ℕ → List ℕ → Bool
 startsWith t s = same (take (length t) s) t
 
--- what a digit stands for, and 10 where a byte is no digit
+-- what a digit stands for, and more than 9 where a byte is no digit
 unfoldable pub digitValue : ℕ → ℕ
-digitValue b = cond (isDigit b) (b - 48) 10
+digitValue b = cond (ltb b 48) (b + 4294967248) (b - 48)
 
 -- the power and `;` that five bytes begin with: one digit, or up to four that begin with no 0
 unfoldable pub powerOf : ℕ → ℕ → ℕ → ℕ → ℕ → PowerRead
@@ -50,6 +52,60 @@ unfoldable pub linePower : ℕ → ℕ → List ℕ → LinePower
 linePower steps k line =
     cond (not (hasLabels steps k line)) NoLabels
     (cond (not (isPower (restOf steps k line))) NoPower (Gives (valueOf (restOf steps k line))))
+
+-- A GOOD LINE AT ONCE
+
+-- six bytes as one number
+abbrev pub six : ℕ → ℕ → ℕ → ℕ → ℕ → ℕ → ℕ
+six a b c d e f = a + 256 * (b + 256 * (c + 256 * (d + 256 * (e + 256 * f))))
+
+-- more than six bytes give
+abbrev pub noMark : ℕ
+noMark = 281474976710656
+
+-- `hh:mm;` of a count of half hours since midnight
+abbrev pub timeMark : ℕ → ℕ
+timeMark j = six (48 + j / 20) (48 + j / 2 % 10) 58 (48 + j % 2 * 3) 48 59
+
+-- the marks of a day's times, 00:00 to 24:00
+unfoldable pub timeMarks : List ℕ
+timeMarks =
+    65078153588784 ∷ 65078203920432 ∷ 65078153589040 ∷ 65078203920688 ∷ 65078153589296 ∷ 65078203920944 ∷ 65078153589552
+    ∷ 65078203921200 ∷ 65078153589808 ∷ 65078203921456 ∷ 65078153590064 ∷ 65078203921712 ∷ 65078153590320 ∷ 65078203921968
+    ∷ 65078153590576 ∷ 65078203922224 ∷ 65078153590832 ∷ 65078203922480 ∷ 65078153591088 ∷ 65078203922736 ∷ 65078153588785
+    ∷ 65078203920433 ∷ 65078153589041 ∷ 65078203920689 ∷ 65078153589297 ∷ 65078203920945 ∷ 65078153589553 ∷ 65078203921201
+    ∷ 65078153589809 ∷ 65078203921457 ∷ 65078153590065 ∷ 65078203921713 ∷ 65078153590321 ∷ 65078203921969 ∷ 65078153590577
+    ∷ 65078203922225 ∷ 65078153590833 ∷ 65078203922481 ∷ 65078153591089 ∷ 65078203922737 ∷ 65078153588786 ∷ 65078203920434
+    ∷ 65078153589042 ∷ 65078203920690 ∷ 65078153589298 ∷ 65078203920946 ∷ 65078153589554 ∷ 65078203921202 ∷ 65078153589810 ∷ []
+
+-- the half hours since midnight that a boundary between steps is labelled with
+unfoldable pub halfHours : ℕ → ℕ → ℕ
+halfHours steps at = cond (ltb at (turnOf steps)) at (at + plainSteps - steps)
+
+-- a boundary's label and `;` as one number, where the time doesn't stand again
+unfoldable pub markOf : ℕ → ℕ → ℕ
+markOf steps at = cond (leb (turnOf steps) at && ltb (halfHours steps at) (turnOf steps)) noMark (timeMark (halfHours steps at))
+
+-- from boundary k to boundary r the labels go on by half hours, and none of them stands again
+pub record Plain (steps k r : ℕ) : Type 0 where
+  pub within : r ≤ steps
+  pub marks : (i : ℕ) → k ≤ i → i ≤ r → markOf steps i ≡ timeMark (halfHours steps k + (i - k))
+  pub small : halfHours steps k + (r - k) < 49
+
+-- at a place stand two marks, a power and `;`, and LF: n bytes
+pub record LineAt (s : List ℕ) (at from until v n : ℕ) : Type 0 where
+  pub bytes : (i : ℕ) → getD s i 0 < 256
+  pub first : six (getD s at 0) (getD s (at + 1) 0) (getD s (at + 2) 0) (getD s (at + 3) 0) (getD s (at + 4) 0) (getD s (at + 5) 0) ≡ from
+  pub second : six (getD s (at + 6) 0) (getD s (at + 7) 0) (getD s (at + 8) 0) (getD s (at + 9) 0) (getD s (at + 10) 0) (getD s (at + 11) 0) ≡ until
+  pub power : Is v (n - 13) ≡ powerOf (getD s (at + 12) 0) (getD s (at + 12 + 1) 0) (getD s (at + 12 + 2) 0) (getD s (at + 12 + 3) 0) (getD s (at + 12 + 4) 0)
+  pub break : getD s (at + n - 1) 0 ≡ 10
+  pub more : 13 ≤ n
+  pub within : at + n ≤ length s
+
+-- what is said of a place
+abbrev pub LineSays : List ℕ → ℕ → ℕ → ℕ → PowerRead → Type 0
+LineSays s at from until (Is v n) = LineAt s at from until v n
+LineSays s at from until Not = Unit {0}
 
 -- WHAT IS KEPT FROM LINE TO LINE
 
@@ -98,6 +154,12 @@ pub record LineEnd (s : List ℕ) (from r : ℕ) : Type 0 where
 unfoldable pub takeLines : ℕ → Taken → List (List ℕ) → Taken
 takeLines steps x [] = x
 takeLines steps x (l ∷ ls) = takeLines steps (takeLine steps x l) ls
+
+-- lines taken from a place on come to what is kept at a later place
+pub record RunOn (steps : ℕ) (s : List ℕ) (from : ℕ) (x : Taken) (at : ℕ) (y : Taken) : Type 0 where
+  pub after : from ≤ at
+  pub within : at ≤ length s
+  pub kept : takeLines steps x (linesIn (drop from s)) ≡ takeLines steps y (linesIn (drop at s))
 
 -- before the first line
 abbrev pub noLines : Tally

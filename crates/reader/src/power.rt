@@ -17,21 +17,18 @@ pub(crate) fn byte_at(s: &[u8], i: usize) -> u8
     if i < s.len() { s[i] } else { 0 }
 }
 
-// What a digit stands for, and 10 where a byte is no digit.
-fn digit_value(b: u8) -> u16
+// What a digit stands for, and more than 9 where a byte is no digit.
+fn digit_value(b: u8) -> u32
     ensures { λ r. ⌜ r ≡ digitValue b ⌝ }
 {
     if b < b'0' {
-        return 10;
+        return b as u32 + 4294967248;
     }
-    if b'9' < b {
-        return 10;
-    }
-    (b - b'0') as u16
+    (b - b'0') as u32
 }
 
 // The power and `;` that five bytes begin with: one digit, or up to four that begin with no 0.
-fn power_of(a: u8, b: u8, c: u8, d: u8, e: u8) -> Power
+pub(crate) fn power_of(a: u8, b: u8, c: u8, d: u8, e: u8) -> Power
     ensures { λ r. ⌜ r ≡ powerOf a b c d e ⌝ }
 {
     let one = digit_value(a);
@@ -39,7 +36,7 @@ fn power_of(a: u8, b: u8, c: u8, d: u8, e: u8) -> Power
         return Power::Not;
     }
     if b == b';' {
-        return Power::Is(one, 2);
+        return Power::Is(one as u16, 2);
     }
     let next = digit_value(b);
     if 9 < next {
@@ -50,7 +47,7 @@ fn power_of(a: u8, b: u8, c: u8, d: u8, e: u8) -> Power
     }
     let two = one * 10 + next;
     if c == b';' {
-        return Power::Is(two, 3);
+        return Power::Is(two as u16, 3);
     }
     let next = digit_value(c);
     if 9 < next {
@@ -58,14 +55,14 @@ fn power_of(a: u8, b: u8, c: u8, d: u8, e: u8) -> Power
     }
     let three = two * 10 + next;
     if d == b';' {
-        return Power::Is(three, 4);
+        return Power::Is(three as u16, 4);
     }
     let next = digit_value(d);
     if 9 < next {
         return Power::Not;
     }
     if e == b';' {
-        Power::Is(three * 10 + next, 5)
+        Power::Is((three * 10 + next) as u16, 5)
     } else {
         Power::Not
     }
@@ -76,6 +73,9 @@ pub(crate) fn power_at(s: &[u8], a: usize) -> Power
     requires { ⌜ a ≤ length (now s) ⌝ }
     ensures { λ r. ⌜ r ≡ powerOf (getD (now (s .entry)) a 0) (getD (now (s .entry)) (a + 1) 0) (getD (now (s .entry)) (a + 2) 0) (getD (now (s .entry)) (a + 3) 0) (getD (now (s .entry)) (a + 4) 0) ⌝ }
 {
+    if 5 <= s.len() - a {
+        return power_of(s[a], s[a + 1], s[a + 2], s[a + 3], s[a + 4]);
+    }
     power_of(
         byte_at(s, a),
         byte_at(s, a + 1),

@@ -4,8 +4,12 @@ ghost use mathlib.Core.List.{[], _∷_, _++_};
 ghost use Prim.Native.Nat.{_+_, _-_, _<_, _≤_, min};
 ghost use lib.ListN.{length, getD, drop, take};
 ghost use Rattle.notification.specs.Forms.{places};
-ghost use Rattle.reader.specs.Walking.{startsWith, linePower, isPass, counted, faulted, credited, LineEnd, takeLine, takeLines};
+ghost use Rattle.reader.specs.Walking.{startsWith, linePower, isPass, counted, faulted, credited, LineEnd, takeLine, takeLines, RunOn};
 ghost use Rattle.notification.specs.Reading.{linesIn};
+use crate::marks::TIME_MARKS;
+use crate::marks::good_line;
+use crate::marks::half_hours;
+use crate::marks::run_end;
 use crate::power::Power;
 use crate::power::power_at;
 use calendar::labels_of;
@@ -169,6 +173,57 @@ pub(crate) fn line_end(s: &[u8], from: usize) -> usize
     i
 }
 
+// Lines that were taken, and where the next one begins.
+pub struct Run {
+    pub tally: Tally,
+    pub at: usize,
+}
+
+// The good lines from a place on, each taken at once, up to the first that isn't plainly good.
+fn good_run(t: Tally, steps: u32, body: &[u8], from: usize, powers: &mut [u16; 50]) -> Run
+    requires { ⌜ (steps ≤ places) × (from ≤ length (now body)) ⌝ }
+    ensures { λ r. ⌜ RunOn steps (now (body .entry)) from (record { tally = t; powers = now (powers .entry) }) (r .at) (record { tally = r .tally; powers = now (powers .exit) }) ⌝ }
+{
+    let verdict = t.verdict;
+    let mut k = t.lines;
+    if !is_pass(verdict) | (steps <= k) {
+        return Run { tally: t, at: from };
+    }
+    let stop = run_end(steps, k);
+    if stop <= k {
+        return Run { tally: t, at: from };
+    }
+    let any = t.any;
+    let marks = TIME_MARKS;
+    let mut j = half_hours(steps, k) as usize;
+    let mut mark = marks[j];
+    let mut sum: u32 = 0;
+    let mut at = from;
+    while k < stop {
+        let next = marks[j + 1];
+        let line = good_line(body, at, mark, next);
+        match line {
+            Power::Is(power, n) => {
+                powers[k as usize] = power;
+                sum += power as u32;
+                at += n;
+                k += 1;
+                j += 1;
+                mark = next;
+            }
+            Power::Not => {
+                break;
+            }
+        }
+    }
+    let tally = Tally {
+        lines: k,
+        verdict,
+        any: any | (sum != 0),
+    };
+    Run { tally, at }
+}
+
 // The lines from a place on, each ended by LF, one after another.
 pub(crate) fn take_lines(
     t: Tally,
@@ -183,11 +238,15 @@ pub(crate) fn take_lines(
     let mut tally = t;
     let mut at = from;
     loop {
-        let end = line_end(body, at);
+        let run = good_run(tally, steps, body, at, &mut *powers);
+        let start = run.at;
+        let end = line_end(body, start);
+        let sofar = run.tally;
+        tally = sofar;
         if body.len() <= end {
             break;
         }
-        let next = take_line(tally, steps, &body[at..end], &mut *powers);
+        let next = take_line(sofar, steps, &body[start..end], &mut *powers);
         tally = next;
         at = end + 1;
     }

@@ -10,6 +10,9 @@ digit-value-requires c κs = search needs
 returns : tie.Need-returns
 returns c = no-first _ _ _ _ _ _ (c .before .digit-value .ensures) (c .if1 .taken)
 
+cast-t13 : tie.Need-cast-t13
+cast-t13 c = search needs
+
 returns-2 : tie.Need-returns-2
 returns-2 c = one-digit _ _ _ _ _ _ (c .before .before .digit-value .ensures) (c .before .if1 .left) (c .if2 .taken)
 
@@ -28,6 +31,9 @@ mul-two c = search needs
 add-two : tie.Need-add-two
 add-two c = search needs
 
+cast-t15 : tie.Need-cast-t15
+cast-t15 c = search needs
+
 returns-5 : tie.Need-returns-5
 returns-5 c = two-digits _ _ _ _ _ _ _ (c .before .before .before .before .before .before .digit-value .ensures) (c .before .before .before .before .before .if1 .left) (c .before .before .before .before .if2 .left) (c .before .before .before .digit-value2 .ensures) (c .before .before .if3 .left) (c .before .if4 .left) (c .if5 .taken)
 
@@ -43,6 +49,9 @@ mul-three c = search needs
 add-three : tie.Need-add-three
 add-three c = search needs
 
+cast-t16 : tie.Need-cast-t16
+cast-t16 c = search needs
+
 returns-7 : tie.Need-returns-7
 returns-7 c = three-digits _ _ _ _ _ _ _ (c .before .before .before .before .before .before .before .before .before .digit-value .ensures) (c .before .before .before .before .before .before .before .before .if1 .left) (c .before .before .before .before .before .before .before .if2 .left) (c .before .before .before .before .before .before .digit-value2 .ensures) (c .before .before .before .before .before .if3 .left) (c .before .before .before .before .if4 .left) (c .before .before .before .if5 .left) _ (c .before .before .digit-value3 .ensures) (c .before .if6 .left) (c .if7 .taken)
 
@@ -52,11 +61,14 @@ digit-value-requires-4 c κs = search needs
 returns-8 : tie.Need-returns-8
 returns-8 c = no-fourth _ _ _ _ _ _ _ (c .before .before .before .before .before .before .before .before .before .before .before .digit-value .ensures) (c .before .before .before .before .before .before .before .before .before .before .if1 .left) (c .before .before .before .before .before .before .before .before .before .if2 .left) (c .before .before .before .before .before .before .before .before .digit-value2 .ensures) (c .before .before .before .before .before .before .before .if3 .left) (c .before .before .before .before .before .before .if4 .left) (c .before .before .before .before .before .if5 .left) _ (c .before .before .before .before .digit-value3 .ensures) (c .before .before .before .if6 .left) (c .before .before .if7 .left) _ (c .before .digit-value4 .ensures) (c .if8 .taken)
 
-mul-t15 : tie.Need-mul-t15
-mul-t15 c = search needs
+mul-t18 : tie.Need-mul-t18
+mul-t18 c = search needs
 
-add-t16 : tie.Need-add-t16
-add-t16 c = search needs
+add-t19 : tie.Need-add-t19
+add-t19 c = search needs
+
+cast-t20 : tie.Need-cast-t20
+cast-t20 c = search needs
 
 returns-9 : tie.Need-returns-9
 returns-9 c = four-digits _ _ _ _ _ _ _ (c .before .before .before .before .before .before .before .before .before .before .before .before .digit-value .ensures) (c .before .before .before .before .before .before .before .before .before .before .before .if1 .left) (c .before .before .before .before .before .before .before .before .before .before .if2 .left) (c .before .before .before .before .before .before .before .before .before .digit-value2 .ensures) (c .before .before .before .before .before .before .before .before .if3 .left) (c .before .before .before .before .before .before .before .if4 .left) (c .before .before .before .before .before .before .if5 .left) _ (c .before .before .before .before .before .digit-value3 .ensures) (c .before .before .before .before .if6 .left) (c .before .before .before .if7 .left) _ (c .before .before .digit-value4 .ensures) (c .before .if8 .left) (c .if9 .taken)
@@ -70,21 +82,25 @@ power-of-spec =
     (tie.spec
     digit-value-requires
     returns
+    cast-t13
     returns-2
     digit-value-requires-2
     returns-3
     returns-4
     mul-two
     add-two
+    cast-t15
     returns-5
     digit-value-requires-3
     returns-6
     mul-three
     add-three
+    cast-t16
     returns-7
     digit-value-requires-4
     returns-8
-    mul-t15
-    add-t16
+    mul-t18
+    add-t19
+    cast-t20
     returns-9
     returns-10)

@@ -11,6 +11,7 @@ use Rattle.reader.proofs.tally.take_lines.Statement.{statement}
 use Rattle.reader.proofs.tally.take_lines.Tie as tie
 use Rattle.reader.proofs.tally.take_lines.Reads as reads
 use Rattle.reader.proofs.tally.take_lines.Lts as lts
+use Rattle.reader.proofs.tally.good_run.Reads as good-run-reads
 use Rattle.reader.proofs.tally.line_end.Reads as line-end-reads
 use Rattle.reader.proofs.tally.take_line.Reads as take-line-reads
 
@@ -24,17 +25,20 @@ abbrev μ-loop : tie.MeasureT-loop
 loop-holds : tie.Need-loop-holds Inv-loop μ-loop
 loop-holds c = (search needs, refl)
 
+good-run-requires : tie.Need-good-run-requires Inv-loop μ-loop
+good-run-requires c κs = search needs
+
 line-end-requires : tie.Need-line-end-requires Inv-loop μ-loop
-line-end-requires c κs = search needs
+line-end-requires c κs = c .good-run .ensures .within
 
 sub-take-line : tie.Need-sub-take-line Inv-loop μ-loop
-sub-take-line c = search needs
+sub-take-line c = omega (arith, c .before .before .line-end .ensures .after, c .before .before .line-end .ensures .within)
 
 part-take-line-start : tie.Need-part-take-line-start Inv-loop μ-loop
-part-take-line-start c = search needs
+part-take-line-start c = omega (arith, c .before .before .line-end .ensures .after, c .before .before .line-end .ensures .within)
 
 part-take-line-end : tie.Need-part-take-line-end Inv-loop μ-loop
-part-take-line-end c = search needs
+part-take-line-end c = omega (arith, c .before .before .line-end .ensures .after, c .before .before .line-end .ensures .within)
 
 take-line-requires : tie.Need-take-line-requires Inv-loop μ-loop
 take-line-requires c κs = search needs
@@ -43,21 +47,23 @@ add-at : tie.Need-add-at Inv-loop μ-loop
 add-at c = search needs
 
 loop-less : tie.Need-loop-less Inv-loop μ-loop
-loop-less c = search needs
+loop-less c = omega (arith, c .before .before .before .before .before .line-end .ensures .after, c .before .before .before .before .before .before .good-run .ensures .after, c .before .before .before .if1 .left)
 
 loop-again : tie.Need-loop-again Inv-loop μ-loop
 loop-again c =
-    let a = c .before .before .before .before .before .before .before .args in
-    let l = c .before .before .before .before .before .loop in
-    let e = c .before .before .before .before .line-end in
-    (omega (arith, e .ensures .within), l .inv .1 ∙ take-first (a .steps) (a .body .now) (l .at) (e .result) (e .ensures) (record { tally = l .tally; powers = l .powers }) _ (c .before .before .before .if1 .left) (c .take-line .ensures))
+    let a = c .before .before .before .before .before .before .before .before .before .before .args in
+    let l = c .before .before .before .before .before .before .before .before .loop in
+    let g = c .before .before .before .before .before .before .good-run in
+    let e = c .before .before .before .before .before .line-end in
+    (omega (arith, c .before .before .before .if1 .left), l .inv .1 ∙ (g .ensures .kept ∙ take-first (a .steps) (a .body .now) (g .result .at) (e .result) (e .ensures) _ _ (c .before .before .before .if1 .left) (c .take-line .ensures)))
 
 returns : tie.Need-returns Inv-loop μ-loop
 returns c =
-    let a = c .before .before .before .before .args in
-    let l = c .before .before .loop in
-    let e = c .before .line-end in
-    sym (l .inv .1 ∙ take-none (a .steps) (a .body .now) (l .at) (e .result) (e .ensures) (record { tally = l .tally; powers = l .powers }) (c .if1 .taken))
+    let a = c .before .before .before .before .before .before .before .args in
+    let l = c .before .before .before .before .before .loop in
+    let g = c .before .before .before .good-run in
+    let e = c .before .before .line-end in
+    sym (l .inv .1 ∙ (g .ensures .kept ∙ take-none (a .steps) (a .body .now) (g .result .at) (e .result) (e .ensures) _ (c .if1 .taken)))
 
 pub take-lines-spec : {M : Type 1} → statement M
 take-lines-spec =
@@ -66,6 +72,7 @@ take-lines-spec =
     Inv-loop
     μ-loop
     loop-holds
+    good-run-requires
     line-end-requires
     sub-take-line
     part-take-line-start

@@ -1,0 +1,401 @@
+-- A line that begins with the marks of its step's two boundaries begins with their labels, and is taken as its power.
+use mathlib.Core.Path.{_≡_, refl, sym, ap, _∙_}
+use mathlib.Core.Bool.{Bool, true, false, cond, not, _&&_, _||_}
+use mathlib.Core.List.{List, [], _∷_, _++_, append-assoc}
+use Prim.Native.Nat.{ℕ, zero, suc, _+_, _-_, _*_, _/_, _%_, _<_, _≤_, min}
+use native.Mathlib.Nat.{add-zero}
+use native.Mathlib.Numerals.{add-one}
+use native.Mathlib.Omega.{arith}
+use lib.Dec.{leb, ltb, eqb}
+use lib.ListN.{length, getD, take, drop, set, length-drop, take-append-drop, List·getD-eq-default}
+use lib.Seq.{drop-drop, drop-cons, getD-drop}
+use borrow.Author.Tests.{eqb-true, eqb-false, ne-eqb, lt-ltb, le-ltb, lt-leb, ltb-true, ltb-false}
+use Rattle.lists.proofs.Tests.{by-test, and-left, and-right}
+use Rattle.lists.proofs.Tests.{true-of}
+use Rattle.lists.proofs.Below.{below}
+use Rattle.calendar.specs.Steps.{plainSteps, stepMinutes}
+use Rattle.calendar.specs.Labels.{turnOf, minuteOf, againAt, labelOf}
+use Rattle.refusals.specs.declared.Verdict.{Verdict}
+use Rattle.refusals.specs.declared.Verdict.the-variants.{Pass}
+use Rattle.notification.specs.Forms.{powerEnd, places}
+use Rattle.notification.specs.Writing.{labelText, labelsText, powerText}
+use Rattle.notification.specs.Reading.{linesIn, hasLabels, restOf, valueOf, isPower}
+use Rattle.reader.specs.Walking.{six, noMark, timeMark, timeMarks, halfHours, markOf, Plain, powerOf, LineAt, LineSays, Taken, credited, takeLine, takeLines}
+use Rattle.reader.specs.declared.power.Power.{Power}
+use Rattle.reader.specs.declared.power.Power.the-variants.{Is, Not}
+use Rattle.reader.specs.declared.tally.Tally.{Tally}
+use Rattle.notification.proofs.Lines.{inLine, lines-first}
+use Rattle.notification.proofs.Breaks.{line-in}
+use Rattle.notification.proofs.Steps.{lineOf, line-made, line-value, goodLine}
+use Rattle.reader.proofs.Figures.{powerIn, power-sound}
+use Rattle.reader.proofs.Tallies.{line-good, takes-cons, or-zero, or-none}
+
+-- ---- the marks, as a reader makes them
+
+-- each mark of the table is that of its time
+right-mark : ℕ → Bool
+right-mark j = eqb (getD timeMarks j 0) (timeMark j)
+
+time-marks : (j : ℕ) → j < 49 → getD timeMarks j 0 ≡ timeMark j
+unfolding timeMarks right-mark
+time-marks j h = eqb-true (getD timeMarks j 0) (timeMark j) (true-of (right-mark j) (below right-mark 49 tt j h))
+
+pub turn-short : (steps : ℕ) → steps < plainSteps → 4 ≡ turnOf steps
+turn-short steps h = rw (lt-ltb steps plainSteps h)
+
+pub turn-long : (steps : ℕ) → plainSteps ≤ steps → 7 ≡ turnOf steps
+turn-long steps h = rw (le-ltb steps plainSteps h)
+
+and-false : (a : Bool) → (a && false) ≡ false
+and-false true = refl
+and-false false = refl
+
+never : (t i : ℕ) → (leb t i && ltb i t) ≡ false
+never t i =
+    by-test (ltb i t)
+    (λ u. let h = ltb-true i t u in rw (lt-leb t i h))
+    (λ u. rw u (and-false (leb t i)))
+
+time-small : (j : ℕ) → j < 49 → timeMark j < noMark
+time-small j h = omega arith
+
+module _ (steps at t : ℕ) (p : t ≡ turnOf steps) where
+  pub half-before : at < t → at ≡ halfHours steps at
+  unfolding halfHours
+  half-before h = let k : at < turnOf steps = rw p at h in rw (lt-ltb at (turnOf steps) k)
+
+  pub half-after : t ≤ at → at + plainSteps - steps ≡ halfHours steps at
+  unfolding halfHours
+  half-after h = let k : turnOf steps ≤ at = rw p at h in rw (le-ltb at (turnOf steps) k)
+
+-- a mark of the time at a boundary that doesn't stand again
+plain-mark : (steps at : ℕ) → (leb (turnOf steps) at && ltb (halfHours steps at) (turnOf steps)) ≡ false → markOf steps at ≡ timeMark (halfHours steps at)
+unfolding markOf
+plain-mark steps at e = rw e
+
+-- before the turn, and after it where the first doesn't stand again
+half-here : (steps at : ℕ) → at < turnOf steps → halfHours steps at ≡ at
+half-here steps at h = sym (half-before steps at (turnOf steps) refl h)
+
+half-there : (steps at : ℕ) → turnOf steps ≤ at → halfHours steps at ≡ at + plainSteps - steps
+half-there steps at h = sym (half-after steps at (turnOf steps) refl h)
+
+turn-bound : (steps : ℕ) → (4 ≤ turnOf steps) × (turnOf steps ≤ 7)
+turn-bound steps = by-test (ltb steps plainSteps) (λ t. rw t (omega arith, omega arith)) (λ t. rw t (omega arith, omega arith))
+
+module _ (steps k : ℕ) (w : k ≤ steps) (g : steps ≤ places) where
+  -- after the turn
+  pub plain-after : (t j : ℕ) → t ≡ turnOf steps → j ≡ halfHours steps k → t ≤ k → t ≤ j → Plain steps k steps
+  plain-after t j p q h l =
+      let b = turn-bound steps in
+      let h2 : turnOf steps ≤ k = omega arith in
+      let e = half-there steps k h2 in
+      record { within = omega arith; marks = λ i a c. at-boundary i a c; small = omega arith }
+    where
+      at-boundary : (i : ℕ) → k ≤ i → i ≤ steps → markOf steps i ≡ timeMark (halfHours steps k + (i - k))
+      at-boundary i a c =
+          let b = turn-bound steps in
+          let h2 : turnOf steps ≤ i = omega arith in
+          let h3 : turnOf steps ≤ k = omega arith in
+          let e = half-there steps k h3 in
+          let f = half-there steps i h2 in
+          let n : halfHours steps i ≡ halfHours steps k + (i - k) = omega arith in
+          let o : turnOf steps ≤ halfHours steps i = omega arith in
+          let z : (leb (turnOf steps) i && ltb (halfHours steps i) (turnOf steps)) ≡ false = rw (le-ltb (halfHours steps i) (turnOf steps) o) (and-false (leb (turnOf steps) i)) in
+          plain-mark steps i z ∙ ap timeMark n
+
+  -- on a day whose times go on by half hours throughout
+  pub plain-all : (t : ℕ) → t ≡ turnOf steps → k < t → steps ≡ plainSteps → Plain steps k steps
+  plain-all t p h s =
+      let b = turn-bound steps in
+      let h2 : k < turnOf steps = omega arith in
+      let e = half-here steps k h2 in
+      record { within = omega arith; marks = λ i a c. at-boundary i a c; small = omega arith }
+    where
+      same-half : (i : ℕ) → halfHours steps i ≡ i
+      same-half i =
+          by-test (ltb i (turnOf steps))
+          (λ u. half-here steps i (ltb-true i (turnOf steps) u))
+          (λ u. half-there steps i (ltb-false i (turnOf steps) u) ∙ omega arith)
+
+      at-boundary : (i : ℕ) → k ≤ i → i ≤ steps → markOf steps i ≡ timeMark (halfHours steps k + (i - k))
+      at-boundary i a c =
+          let e = same-half k in
+          let f = same-half i in
+          let n : halfHours steps i ≡ halfHours steps k + (i - k) = omega arith in
+          plain-mark steps i (rw f (never (turnOf steps) i)) ∙ ap timeMark n
+
+  -- before the turn
+  pub plain-before : (t r : ℕ) → t ≡ turnOf steps → k ≤ r → r < t → r ≤ steps → Plain steps k r
+  plain-before t r p h l m =
+      let b = turn-bound steps in
+      let h2 : k < turnOf steps = omega arith in
+      let e = half-here steps k h2 in
+      record { within = m; marks = λ i a c. at-boundary i a c; small = omega arith }
+    where
+      at-boundary : (i : ℕ) → k ≤ i → i ≤ r → markOf steps i ≡ timeMark (halfHours steps k + (i - k))
+      at-boundary i a c =
+          let h2 : i < turnOf steps = omega arith in
+          let h3 : k < turnOf steps = omega arith in
+          let e = half-here steps k h3 in
+          let f = half-here steps i h2 in
+          let n : halfHours steps i ≡ halfHours steps k + (i - k) = omega arith in
+          plain-mark steps i (rw f (never (turnOf steps) i)) ∙ ap timeMark n
+
+-- the mark of a boundary in a table
+pub table-mark : (steps k r i j : ℕ) → Plain steps k r → k ≤ i → i ≤ r → j ≡ halfHours steps k + (i - k) → getD timeMarks j 0 ≡ markOf steps i
+table-mark steps k r i j p a b e =
+    let s = p .small in
+    time-marks j (omega arith) ∙ (ap timeMark e ∙ sym (p .marks i a b))
+
+pub table-small : (steps k r i : ℕ) → Plain steps k r → k ≤ i → i ≤ r → markOf steps i < noMark
+table-small steps k r i p a b =
+    let s = p .small in
+    let l : halfHours steps k + (i - k) < 49 = omega arith in
+    rw (p .marks i a b) (time-small (halfHours steps k + (i - k)) l)
+
+-- a sum is 0 where both parts are
+pub sum-zero : (a : Bool) (s v : ℕ) → ((a || not (eqb s 0)) || not (eqb v 0)) ≡ (a || not (eqb (s + v) 0))
+sum-zero a s v = or-zero a (eqb s 0) (eqb v 0) ∙ ap (λ (b : Bool). a || not b) (sym both)
+  where
+    both : eqb (s + v) 0 ≡ (eqb s 0 && eqb v 0)
+    both =
+        by-test (eqb s 0)
+        (λ t. let e = eqb-true s 0 t in
+        let n : s + v ≡ v = omega arith in
+        rw (n, t))
+        (λ t. let f = eqb-false s 0 t in
+        rw (ne-eqb (s + v) 0 (λ (z : s + v ≡ 0). f (omega arith)), t))
+
+-- ---- numbers of bytes
+
+-- two numbers alike, by their last byte and the rest
+peel : (a b p q : ℕ) → a < 256 → b < 256 → a + 256 * p ≡ b + 256 * q → (a ≡ b) × (p ≡ q)
+peel a b p q h k e = (omega arith, omega arith)
+
+pub record Bytes (a b c d e f : ℕ) : Type 0 where
+  pub b0 : a < 256
+  pub b1 : b < 256
+  pub b2 : c < 256
+  pub b3 : d < 256
+  pub b4 : e < 256
+  pub b5 : f < 256
+
+six-small : (a b c d e f : ℕ) → Bytes a b c d e f → six a b c d e f < noMark
+six-small a b c d e f r = omega arith
+
+six-same : (a b c d e f g h i j k l : ℕ) → Bytes a b c d e f → Bytes g h i j k l → six a b c d e f ≡ six g h i j k l
+    → (a ∷ b ∷ c ∷ d ∷ e ∷ f ∷ []) ≡ (g ∷ h ∷ i ∷ j ∷ k ∷ l ∷ [])
+six-same a b c d e f g h i j k l r s m =
+    let p0 = peel a g (b + 256 * (c + 256 * (d + 256 * (e + 256 * f)))) (h + 256 * (i + 256 * (j + 256 * (k + 256 * l)))) (r .b0) (s .b0) m in
+    let p1 = peel b h (c + 256 * (d + 256 * (e + 256 * f))) (i + 256 * (j + 256 * (k + 256 * l))) (r .b1) (s .b1) (p0 .1) in
+    let p2 = peel c i (d + 256 * (e + 256 * f)) (j + 256 * (k + 256 * l)) (r .b2) (s .b2) (p1 .1) in
+    let p3 = peel d j (e + 256 * f) (k + 256 * l) (r .b3) (s .b3) (p2 .1) in
+    let p4 = peel e k f l (r .b4) (s .b4) (p3 .1) in
+    cc (p0 .0, p1 .0, p2 .0, p3 .0, p4 .0, p4 .1)
+
+halves : (a b p q : ℕ) → a < noMark → b < noMark → a + noMark * p ≡ b + noMark * q → (a ≡ b) × (p ≡ q)
+halves a b p q h k e = (omega arith, omega arith)
+
+-- twelve bytes as eight and four
+pub marks-six : (a b c d e f g h i j k l from until x y z : ℕ) → Bytes a b c d e f → Bytes g h i j k l → from < noMark
+    → x ≡ a + 256 * (b + 256 * (c + 256 * d)) → y ≡ e + 256 * (f + 256 * (g + 256 * h)) → z ≡ i + 256 * (j + 256 * (k + 256 * l))
+    → x + y * 4294967296 ≡ from + until % 65536 * noMark → z ≡ until / 65536
+    → (six a b c d e f ≡ from) × (six g h i j k l ≡ until)
+marks-six a b c d e f g h i j k l from until x y z r s n p q o m w =
+    let u : six a b c d e f + noMark * (g + 256 * h) ≡ from + noMark * (until % 65536) = omega arith in
+    let v = halves (six a b c d e f) from (g + 256 * h) (until % 65536) (six-small a b c d e f r) n u in
+    let t : until % 65536 + 65536 * (until / 65536) ≡ until = omega arith in
+    (v .0, omega (arith, v .1))
+
+-- the two numbers that a reader compares
+pub marks-flag : (s : List ℕ) (a from until x y z : ℕ) → ((i : ℕ) → getD s i 0 < 256) → from < noMark
+    → x ≡ getD s a 0 + 256 * (getD s (a + 1) 0 + 256 * (getD s (a + 2) 0 + 256 * getD s (a + 3) 0))
+    → y ≡ getD s (a + 4) 0 + 256 * (getD s (a + 4 + 1) 0 + 256 * (getD s (a + 4 + 2) 0 + 256 * getD s (a + 4 + 3) 0))
+    → z ≡ getD s (a + 8) 0 + 256 * (getD s (a + 8 + 1) 0 + 256 * (getD s (a + 8 + 2) 0 + 256 * getD s (a + 8 + 3) 0))
+    → (eqb (x + y * 4294967296) (from + until % 65536 * noMark) && eqb z (until / 65536)) ≡ true
+    → (six (getD s a 0) (getD s (a + 1) 0) (getD s (a + 2) 0) (getD s (a + 3) 0) (getD s (a + 4) 0) (getD s (a + 5) 0) ≡ from)
+    × (six (getD s (a + 6) 0) (getD s (a + 7) 0) (getD s (a + 8) 0) (getD s (a + 9) 0) (getD s (a + 10) 0) (getD s (a + 11) 0) ≡ until)
+marks-flag s a from until x y z h n p q r e =
+    let l = eqb (x + y * 4294967296) (from + until % 65536 * noMark) in
+    let m = eqb z (until / 65536) in
+    let q1 : a + 4 + 1 ≡ a + 5 = omega arith in
+    let q2 : a + 4 + 2 ≡ a + 6 = omega arith in
+    let q3 : a + 4 + 3 ≡ a + 7 = omega arith in
+    let r1 : a + 8 + 1 ≡ a + 9 = omega arith in
+    let r2 : a + 8 + 2 ≡ a + 10 = omega arith in
+    let r3 : a + 8 + 3 ≡ a + 11 = omega arith in
+    marks-six (getD s a 0) (getD s (a + 1) 0) (getD s (a + 2) 0) (getD s (a + 3) 0) (getD s (a + 4) 0) (getD s (a + 5) 0)
+    (getD s (a + 6) 0) (getD s (a + 7) 0) (getD s (a + 8) 0) (getD s (a + 9) 0) (getD s (a + 10) 0) (getD s (a + 11) 0) from until x y z
+    (record { b0 = h a; b1 = h (a + 1); b2 = h (a + 2); b3 = h (a + 3); b4 = h (a + 4); b5 = h (a + 5) })
+    (record { b0 = h (a + 6); b1 = h (a + 7); b2 = h (a + 8); b3 = h (a + 9); b4 = h (a + 10); b5 = h (a + 11) })
+    n p (rw (q1, q2, q3) at q) (rw (r1, r2, r3) at r)
+    (eqb-true (x + y * 4294967296) (from + until % 65536 * noMark) (and-left l m e)) (eqb-true z (until / 65536) (and-right l m e))
+
+-- ---- a mark and its label
+
+minute-half : (steps at : ℕ) → minuteOf steps at ≡ 30 * halfHours steps at
+unfolding halfHours
+minute-half steps at = by-test (ltb at (turnOf steps)) (λ t. rw t) (λ t. rw t)
+
+half-small : (steps at : ℕ) → at ≤ steps → steps ≤ places → halfHours steps at < 100
+unfolding halfHours
+half-small steps at h g = by-test (ltb at (turnOf steps)) (λ t. rw t (omega arith)) (λ t. rw t (omega arith))
+
+thirty : (a b : ℕ) → ltb (30 * a) (30 * b) ≡ ltb a b
+thirty a b =
+    by-test (ltb a b)
+    (λ t. let h = ltb-true a b t in lt-ltb (30 * a) (30 * b) (omega arith) ∙ sym t)
+    (λ t. let h = ltb-false a b t in le-ltb (30 * a) (30 * b) (omega arith) ∙ sym t)
+
+again-mark : (steps at : ℕ) → againAt steps at ≡ (leb (turnOf steps) at && ltb (halfHours steps at) (turnOf steps))
+again-mark steps at =
+    ap (λ (m : ℕ). leb (turnOf steps) at && ltb m (stepMinutes * turnOf steps)) (minute-half steps at)
+    ∙ ap (λ (b : Bool). leb (turnOf steps) at && b) (thirty (halfHours steps at) (turnOf steps))
+
+tens-half : (j : ℕ) → j < 100 → 48 + j / 2 / 10 % 10 ≡ 48 + j / 20
+tens-half j h =
+    let a : j / 2 / 10 ≡ j / 20 = omega arith in
+    rw a (omega arith)
+
+plain-label : (steps at : ℕ) → againAt steps at ≡ false → halfHours steps at < 100
+    → labelText steps at ++ 59 ∷ [] ≡ (48 + halfHours steps at / 20) ∷ (48 + halfHours steps at / 2 % 10) ∷ 58 ∷ (48 + halfHours steps at % 2 * 3) ∷ 48 ∷ 59 ∷ []
+unfolding labelOf
+plain-label steps at a h =
+    let j = halfHours steps at in
+    let m = minuteOf steps at in
+    let e = minute-half steps at in
+    let hour : m / 60 ≡ j / 2 = omega arith in
+    let minute : m % 60 ≡ j % 2 * 30 = omega arith in
+    let u : 48 + m / 60 / 10 % 10 ≡ 48 + j / 20 = rw hour (tens-half j h) in
+    let v : 48 + m / 60 % 10 ≡ 48 + j / 2 % 10 = rw hour in
+    let w : 48 + m % 60 / 10 % 10 ≡ 48 + j % 2 * 3 = rw minute (omega arith) in
+    let x : 48 + m % 60 % 10 ≡ 48 = rw minute (omega arith) in
+    rw a (cc (u, v, w, x))
+
+pub label-mark : (steps at a b c d e f : ℕ) → at ≤ steps → steps ≤ places → Bytes a b c d e f → six a b c d e f ≡ markOf steps at
+    → (a ∷ b ∷ c ∷ d ∷ e ∷ f ∷ []) ≡ labelText steps at ++ 59 ∷ []
+unfolding markOf
+label-mark steps at a b c d e f h g r m =
+    by-test (leb (turnOf steps) at && ltb (halfHours steps at) (turnOf steps))
+    (λ t. let n : six a b c d e f ≡ noMark = m ∙ rw t in absurd (omega (arith, six-small a b c d e f r)))
+    (λ t. let n : six a b c d e f ≡ timeMark (halfHours steps at) = m ∙ rw t in
+    let j = halfHours steps at in
+    let l = half-small steps at h g in
+    let s : Bytes (48 + j / 20) (48 + j / 2 % 10) 58 (48 + j % 2 * 3) 48 59 = record { b0 = omega arith; b1 = omega arith; b2 = omega arith; b3 = omega arith; b4 = omega arith; b5 = omega arith } in
+    six-same a b c d e f (48 + j / 20) (48 + j / 2 % 10) 58 (48 + j % 2 * 3) 48 59 r s n ∙ sym (plain-label steps at (again-mark steps at ∙ t) l))
+
+-- ---- a good line, as a reader finds it
+
+there : (s : List ℕ) (i : ℕ) → getD s i 0 ≡ 10 → i < length s
+there s i e =
+    by-test (ltb i (length s)) (λ t. ltb-true i (length s) t)
+    (λ t. absurd (omega (arith, List·getD-eq-default s 0 (ltb-false i (length s) t))))
+
+pub line-at : (s : List ℕ) (at from until v n b : ℕ) → ((i : ℕ) → getD s i 0 < 256)
+    → (six (getD s at 0) (getD s (at + 1) 0) (getD s (at + 2) 0) (getD s (at + 3) 0) (getD s (at + 4) 0) (getD s (at + 5) 0) ≡ from)
+    × (six (getD s (at + 6) 0) (getD s (at + 7) 0) (getD s (at + 8) 0) (getD s (at + 9) 0) (getD s (at + 10) 0) (getD s (at + 11) 0) ≡ until)
+    → Is v n ≡ powerOf (getD s (at + 12) 0) (getD s (at + 12 + 1) 0) (getD s (at + 12 + 2) 0) (getD s (at + 12 + 3) 0) (getD s (at + 12 + 4) 0)
+    → b ≡ getD s (at + 12 + n) 0 → b ≡ 10 → LineAt s at from until v (n + 13)
+line-at s at from until v n b h m p q e =
+    let i : at + (n + 13) - 1 ≡ at + 12 + n = omega arith in
+    let j : n + 13 - 13 ≡ n = omega arith in
+    let l = there s (at + 12 + n) (sym q ∙ e) in
+    record { bytes = h; first = m .0; second = m .1; power = ap (λ (o : ℕ). Is v o) j ∙ p; break = ap (λ (o : ℕ). getD s o 0) i ∙ (sym q ∙ e); more = omega arith; within = omega arith }
+
+-- ---- its text
+
+six-split : (s : List ℕ) → 6 ≤ length s → s ≡ (getD s 0 0 ∷ getD s 1 0 ∷ getD s 2 0 ∷ getD s 3 0 ∷ getD s 4 0 ∷ getD s 5 0 ∷ []) ++ drop 6 s
+six-split (a ∷ b ∷ c ∷ d ∷ e ∷ f ∷ s) h = refl
+six-split [] h = absurd (omega arith)
+six-split (a ∷ []) h = absurd (omega arith)
+six-split (a ∷ b ∷ []) h = absurd (omega arith)
+six-split (a ∷ b ∷ c ∷ []) h = absurd (omega arith)
+six-split (a ∷ b ∷ c ∷ d ∷ []) h = absurd (omega arith)
+six-split (a ∷ b ∷ c ∷ d ∷ e ∷ []) h = absurd (omega arith)
+
+-- six bytes at a place that are a mark are its label
+six-label : (s : List ℕ) (i steps at : ℕ) → i + 6 ≤ length s → ((j : ℕ) → getD s j 0 < 256) → at ≤ steps → steps ≤ places
+    → six (getD s i 0) (getD s (i + 1) 0) (getD s (i + 2) 0) (getD s (i + 3) 0) (getD s (i + 4) 0) (getD s (i + 5) 0) ≡ markOf steps at
+    → drop i s ≡ (labelText steps at ++ 59 ∷ []) ++ drop (i + 6) s
+six-label s i steps at l h g k m =
+    let n : 6 ≤ length (drop i s) = rw length-drop (omega arith) in
+    let b : Bytes (getD s i 0) (getD s (i + 1) 0) (getD s (i + 2) 0) (getD s (i + 3) 0) (getD s (i + 4) 0) (getD s (i + 5) 0) = record { b0 = h i; b1 = h (i + 1); b2 = h (i + 2); b3 = h (i + 3); b4 = h (i + 4); b5 = h (i + 5) } in
+    let t = label-mark steps at (getD s i 0) (getD s (i + 1) 0) (getD s (i + 2) 0) (getD s (i + 3) 0) (getD s (i + 4) 0) (getD s (i + 5) 0) g k b m in
+    let u = rw (getD-drop i s 0 0, getD-drop i s 1 0, getD-drop i s 2 0, getD-drop i s 3 0, getD-drop i s 4 0, getD-drop i s 5 0, add-zero, drop-drop 6 i s) at (six-split (drop i s) n) in
+    u ∙ ap (λ (r : List ℕ). r ++ drop (i + 6) s) t
+
+-- a good line of the step at hand
+good-taken : (steps : ℕ) (t : Tally) (ps s : List ℕ) (at : ℕ) (r : List ℕ) (v : ℕ) → t .verdict ≡ Pass → t .lines < steps
+    → drop at s ≡ lineOf steps (t .lines) v ++ (10 ∷ r) → steps ≤ places → v < powerEnd
+    → takeLines steps (record { tally = t; powers = ps }) (linesIn (drop at s))
+    ≡ takeLines steps (record { tally = record { lines = t .lines + 1; verdict = t .verdict; any = t .any || not (eqb v 0) }; powers = set ps (t .lines) v }) (linesIn r)
+good-taken steps t ps s at r v p h e g b =
+    let k = t .lines in
+    let l = lineOf steps k v in
+    let x : Taken = record { tally = t; powers = ps } in
+    let o = line-made steps k v b in
+    let a = and-left (hasLabels steps k l) (isPower (restOf steps k l)) o in
+    let c = and-right (hasLabels steps k l) (isPower (restOf steps k l)) o in
+    let w = line-value steps k v b in
+    let m : min (k + 1) 51 ≡ k + 1 = omega arith in
+    let y : takeLine steps x l ≡ record { tally = record { lines = k + 1; verdict = t .verdict; any = t .any || not (eqb v 0) }; powers = set ps k v } = rw (w, m) at (line-good steps x l p h a c) in
+    ap (λ (u : List ℕ). takeLines steps x (linesIn u)) e
+    ∙ (ap (λ (u : List (List ℕ)). takeLines steps x u) (lines-first l r (line-in steps k v))
+    ∙ takes-cons steps x (record { tally = record { lines = k + 1; verdict = t .verdict; any = t .any || not (eqb v 0) }; powers = set ps k v }) l (linesIn r) y)
+
+module _ (steps k : ℕ) (s : List ℕ) (at v n : ℕ) (h : k < steps) (g : steps ≤ places) (l : LineAt s at (markOf steps k) (markOf steps (k + 1)) v n) where
+  power-here : powerIn (drop (at + 12) s) ≡ Is v (n - 13)
+  power-here =
+      rw (getD-drop (at + 12) s 0 0, getD-drop (at + 12) s 1 0, getD-drop (at + 12) s 2 0, getD-drop (at + 12) s 3 0, getD-drop (at + 12) s 4 0, add-zero (at + 12))
+      (sym (l .power))
+
+  pub power-small : v < powerEnd
+  power-small = power-sound (drop (at + 12) s) v (n - 13) power-here .0
+
+  after-power : drop (at + 12) s ≡ powerText v ++ (10 ∷ drop (at + n) s)
+  after-power =
+      let p = power-sound (drop (at + 12) s) v (n - 13) power-here in
+      let m = l .more in
+      let w = l .within in
+      let i : at + 12 + (n - 13) ≡ at + n - 1 = omega arith in
+      let j : suc (at + n - 1) ≡ at + n = omega arith in
+      let d : drop (n - 13) (drop (at + 12) s) ≡ 10 ∷ drop (at + n) s = drop-drop (n - 13) (at + 12) s ∙ (ap (λ (o : ℕ). drop o s) i ∙ rw (l .break, j) at (drop-cons s (at + n - 1) 0 (omega arith))) in
+      sym (take-append-drop (n - 13) (drop (at + 12) s)) ∙ (ap (λ (r : List ℕ). r ++ drop (n - 13) (drop (at + 12) s)) (p .2) ∙ ap (λ (r : List ℕ). powerText v ++ r) d)
+
+  its-text : drop at s ≡ lineOf steps k v ++ (10 ∷ drop (at + n) s)
+  unfolding labelsText
+  its-text =
+      let m = l .more in
+      let w = l .within in
+      let q6 : at + 6 + 6 ≡ at + 12 = omega arith in
+      let q1 : at + 6 + 1 ≡ at + 7 = omega arith in
+      let q2 : at + 6 + 2 ≡ at + 8 = omega arith in
+      let q3 : at + 6 + 3 ≡ at + 9 = omega arith in
+      let q4 : at + 6 + 4 ≡ at + 10 = omega arith in
+      let q5 : at + 6 + 5 ≡ at + 11 = omega arith in
+      let a = six-label s at steps k (omega arith) (l .bytes) (omega arith) g (l .first) in
+      let b = six-label s (at + 6) steps (k + 1) (omega arith) (l .bytes) (omega arith) g (rw (q1, q2, q3, q4, q5) (l .second)) in
+      let c : drop (at + 6) s ≡ (labelText steps (suc k) ++ 59 ∷ []) ++ drop (at + 12) s = rw (q6, add-one k) at b in
+      a ∙ (ap (λ (r : List ℕ). (labelText steps k ++ 59 ∷ []) ++ r) (c ∙ ap (λ (r : List ℕ). (labelText steps (suc k) ++ 59 ∷ []) ++ r) after-power) ∙ simp append-assoc)
+
+  -- the line is taken at once
+  pub take-good : (t : Tally) (ps : List ℕ) → t .verdict ≡ Pass → t .lines ≡ k
+      → takeLines steps (record { tally = t; powers = ps }) (linesIn (drop at s))
+      ≡ takeLines steps (record { tally = record { lines = k + 1; verdict = t .verdict; any = t .any || not (eqb v 0) }; powers = set ps k v }) (linesIn (drop (at + n) s))
+  take-good t ps p q = good-taken steps t ps s at (drop (at + n) s) v p (rw q h) (rw q its-text) g power-small ∙ rw q
+
+  -- the same, where whether a power was not 0 is told by a sum
+  pub take-summed : (w : Verdict) (a : Bool) (sum : ℕ) (ps : List ℕ) → w ≡ Pass
+      → takeLines steps (record { tally = record { lines = k; verdict = w; any = a || not (eqb sum 0) }; powers = ps }) (linesIn (drop at s))
+      ≡ takeLines steps (record { tally = record { lines = k + 1; verdict = w; any = a || not (eqb (sum + v) 0) }; powers = set ps k v }) (linesIn (drop (at + n) s))
+  take-summed w a sum ps p =
+      take-good (record { lines = k; verdict = w; any = a || not (eqb sum 0) }) ps p refl
+      ∙ ap (λ (b : Bool). takeLines steps (record { tally = record { lines = k + 1; verdict = w; any = b }; powers = set ps k v }) (linesIn (drop (at + n) s))) (sum-zero a sum v)
+
+-- before the first power the sum is 0
+pub none-summed : (steps : ℕ) (t : Tally) (ps : List ℕ) (ls : List (List ℕ))
+    → takeLines steps (record { tally = t; powers = ps }) ls
+    ≡ takeLines steps (record { tally = record { lines = t .lines; verdict = t .verdict; any = t .any || not (eqb 0 0) }; powers = ps }) ls
+none-summed steps t ps ls =
+    ap (λ (b : Bool). takeLines steps (record { tally = record { lines = t .lines; verdict = t .verdict; any = b }; powers = ps }) ls) (or-none (t .any))

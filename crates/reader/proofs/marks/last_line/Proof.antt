@@ -1,0 +1,77 @@
+-- The marks, the power and LF, one after another.
+use borrow.Author.Needs.{needs}
+use mathlib.Core.Path.{sym, _∙_}
+use native.Mathlib.Omega.{arith}
+use borrow.Author.Tests.{not-false}
+use Rattle.reader.proofs.Figures.{power-few}
+use Rattle.reader.proofs.Marking.{line-at}
+use Rattle.reader.proofs.marks.last_line.Statement.{statement}
+use Rattle.reader.proofs.marks.last_line.Tie as tie
+
+sub-if1 : tie.Need-sub-if1
+sub-if1 c = search needs
+
+returns : tie.Need-returns
+returns c = search needs
+
+marked-requires : tie.Need-marked-requires
+marked-requires c κs = search needs
+
+returns-2 : tie.Need-returns-2
+returns-2 c = search needs
+
+add-power-at : tie.Need-add-power-at
+add-power-at c = search needs
+
+power-at-requires : tie.Need-power-at-requires
+power-at-requires c κs = search needs
+
+enum-known-power : tie.Need-enum-known-power
+enum-known-power c = search needs
+
+add-byte-at : tie.Need-add-byte-at
+add-byte-at c = search needs
+
+add-byte-at-2 : tie.Need-add-byte-at-2
+add-byte-at-2 c = omega (arith, power-few _ _ _ _ _ _ _ (sym (c .before .before .before .power-at .ensures) ∙ c .before .power .given .1))
+
+byte-at-requires : tie.Need-byte-at-requires
+byte-at-requires c κs = search needs
+
+add-t18 : tie.Need-add-t18
+add-t18 c = omega (arith, power-few _ _ _ _ _ _ _ (sym (c .before .before .before .before .before .power-at .ensures) ∙ c .before .before .before .power .given .1))
+
+enum-told : tie.Need-enum-told
+enum-told c = search needs
+
+returns-3 : tie.Need-returns-3
+returns-3 c = 
+    line-at (c .before .before .before .before .before .before .before .before .before .before .args .s .now) (c .before .before .before .before .before .before .before .before .before .before .args .a) (c .before .before .before .before .before .before .before .before .before .before .args .from) (c .before .before .before .before .before .before .before .before .before .before .args .until) _ _ _ (c .before .before .before .before .before .before .before .marked .ensures .1)
+    (c .before .before .before .before .before .before .before .marked .ensures .0 (not-false (c .before .before .before .before .before .before .before .marked .result) (c .before .before .before .before .before .before .if2 .left)))
+    (sym (c .before .before .before .power .given .1) ∙ c .before .before .before .before .before .power-at .ensures) (c .before .byte-at .ensures) (c .if3 .taken)
+
+returns-4 : tie.Need-returns-4
+returns-4 c = search needs
+
+returns-5 : tie.Need-returns-5
+returns-5 c = search needs
+
+pub last-line-spec : {M : Type 1} → statement M
+last-line-spec =
+    tie.close
+    (tie.spec
+    sub-if1
+    returns
+    marked-requires
+    returns-2
+    add-power-at
+    power-at-requires
+    enum-known-power
+    add-byte-at
+    add-byte-at-2
+    byte-at-requires
+    add-t18
+    enum-told
+    returns-3
+    returns-4
+    returns-5)
