@@ -5,12 +5,12 @@ ghost use lib.ListN.{length};
 ghost use Rattle.notification.specs.Forms.{sixBytes};
 ghost use Rattle.notification.specs.Reading.{isHeader};
 ghost use Rattle.reader.specs.Parts.{noKey, keyRead, marked, nameRead};
-use notification::Key;
-use notification::forms::is_category;
-use notification::forms::is_code;
 use crate::power::byte_at;
 use calendar::Day;
 use calendar::day_of;
+use notification::Key;
+use notification::forms::is_category;
+use notification::forms::is_code;
 
 // Whether a text is a key's, and the key.
 pub struct KeyRead {

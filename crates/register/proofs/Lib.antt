@@ -1,7 +1,11 @@
--- What is true of a register's calls: what their tests come to, and what the head that they leave holds.
+-- What is true of a register's calls: what their tests come to, what the head that they leave holds, and demand 3 of them.
 pub mod CallTests
 pub mod Steps
 pub mod Parties
 pub mod Days
 pub mod Fits
 pub mod Filings
+pub mod Records
+pub mod Notes
+pub mod Answers
+pub mod Demand3

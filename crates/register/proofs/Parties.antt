@@ -54,7 +54,7 @@ actor-entry x i d h e =
     let k : i < min (x .count) 8 = omega (arith, length-take-le (min (x .count) 8) (x .entries) (omega arith)) in
     getD-take (min (x .count) 8) (x .entries) i d k
 
-default-any : {A : Type 0} (xs : List A) (i : ℕ) (d e : A) → i < length xs → getD xs i d ≡ getD xs i e
+pub default-any : {A : Type 0} (xs : List A) (i : ℕ) (d e : A) → i < length xs → getD xs i d ≡ getD xs i e
 default-any [] i d e h = absurd (omega arith)
 default-any (x ∷ xs) zero d e h = refl
 default-any (x ∷ xs) (suc i) d e h = default-any xs i d e (omega arith)

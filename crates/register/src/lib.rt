@@ -1,5 +1,7 @@
 // The register (document 01, "The ledger"): a head that calls take and hand back, and columns that the caller lends.
+pub mod asking;
 pub mod enrolling;
+pub mod filing;
 pub mod loading;
 pub mod verdicts;
 

@@ -72,7 +72,7 @@ enum-told : tie.Need-enum-told
 enum-told c = search needs
 
 returns-3 : tie.Need-returns-3
-returns-3 c = 
+returns-3 c =
     line-at (c .before .before .before .before .before .before .before .before .before .before .before .before .before .before .before .args .s .now) (c .before .before .before .before .before .before .before .before .before .before .before .before .before .before .before .args .a) (c .before .before .before .before .before .before .before .before .before .before .before .before .before .before .before .args .from) (c .before .before .before .before .before .before .before .before .before .before .before .before .before .before .before .args .until) _ _ _ (c .before .before .before .before .before .before .before .before .before .before .before .before .marked .ensures .1)
     (c .before .before .before .before .before .before .before .before .before .before .before .before .marked .ensures .0 (not-false (c .before .before .before .before .before .before .before .before .before .before .before .before .marked .result) (c .before .before .before .before .before .before .before .before .before .before .before .if2 .left)))
     (sym (c .before .before .before .power .given .1) ∙ c .before .before .before .before .before .power-of .ensures) refl (c .if3 .taken)

@@ -47,7 +47,7 @@ array-read-mark c = search needs
 
 loop-holds : tie.Need-loop-holds Inv-loop μ-loop
 unfolding timeMarks
-loop-holds c = 
+loop-holds c =
     let a = c .before .before .before .before .before .before .args in
     let p = (c .before .before .run-end .ensures (c .before .if2 .left)) in
     let e = c .half-hours .ensures .0 in
@@ -64,7 +64,7 @@ array-read-next c = let p = (c .before .before .before .before .run-end .ensures
 
 good-line-requires : tie.Need-good-line-requires Inv-loop μ-loop
 unfolding timeMarks
-good-line-requires c κs = 
+good-line-requires c κs =
     let l = c .before .loop in
     let p = (c .before .before .before .before .run-end .ensures (c .before .before .before .if2 .left)) in
     let small = table-small (c .before .before .before .before .before .before .before .before .args .steps) (c .before .before .before .before .before .before .before .before .args .t .lines) (c .before .before .before .before .run-end .result) (l .k) p (omega arith) (omega arith) in
@@ -88,7 +88,7 @@ cast-sum c = search needs
 
 add-sum : tie.Need-add-sum Inv-loop μ-loop
 unfolding timeMarks
-add-sum c = 
+add-sum c =
     let a = c .before .before .before .before .before .before .before .before .before .before .before .before .args in
     let l = c .before .before .before .before .before .loop in
     let p = (c .before .before .before .before .before .before .before .before .run-end .ensures (c .before .before .before .before .before .before .before .if2 .left)) in
@@ -99,7 +99,7 @@ add-sum c =
 
 add-at : tie.Need-add-at Inv-loop μ-loop
 unfolding timeMarks
-add-at c = 
+add-at c =
     let a = c .before .before .before .before .before .before .before .before .before .before .before .before .args in
     let l = c .before .before .before .before .before .loop in
     let p = (c .before .before .before .before .before .before .before .before .run-end .ensures (c .before .before .before .before .before .before .before .if2 .left)) in
@@ -119,7 +119,7 @@ loop-less c = search needs
 
 loop-again : tie.Need-loop-again Inv-loop μ-loop
 unfolding timeMarks
-loop-again c = 
+loop-again c =
     let a = c .before .before .before .before .before .before .before .before .before .before .before .before .args in
     let l = c .before .before .before .before .before .loop in
     let p = (c .before .before .before .before .before .before .before .before .run-end .ensures (c .before .before .before .before .before .before .before .if2 .left)) in

@@ -1,0 +1,2 @@
+-- What the reader's flat face says.
+pub mod Flat
