@@ -1,8 +1,8 @@
 -- The lines of a text from a place on, by where the first of them ends.
 use mathlib.Core.Path.{_≡_, refl, sym, ap, _∙_}
-use mathlib.Core.Bool.{Bool, true, false, not, _&&_}
+use mathlib.Core.Bool.{true}
 use mathlib.Core.List.{List, [], _∷_, _++_}
-use Prim.Native.Nat.{ℕ, zero, suc, _+_, _-_, _<_, _≤_}
+use Prim.Native.Nat.{ℕ, suc, _+_, _-_, _<_, _≤_}
 use native.Mathlib.Numerals.{add-one}
 use native.Mathlib.Omega.{arith}
 use lib.Dec.{eqb}
@@ -12,7 +12,7 @@ use borrow.Author.Tests.{not-true, ne-eqb}
 use Rattle.lists.specs.Searches.{every}
 use Rattle.lists.proofs.Tests.{and-left, and-right, and-true}
 use Rattle.lists.proofs.Searches.{every-append}
-use Rattle.notification.specs.Reading.{onto, linesIn}
+use Rattle.notification.specs.Reading.{linesIn}
 use Rattle.reader.specs.Walking.{Taken, LineEnd, takeLine, takeLines}
 use Rattle.notification.proofs.Lines.{inLine, lines-first}
 

@@ -1,15 +1,15 @@
 -- A power by its bytes: what five bytes begin with is the text of a power, and the text of a power is found so.
-use mathlib.Core.Path.{_≡_, refl, sym, ap, _∙_}
-use mathlib.Core.Bool.{Bool, true, false, cond, not, _&&_, false≢true}
+use mathlib.Core.Path.{_≡_, refl, sym, _∙_}
+use mathlib.Core.Bool.{not}
 use mathlib.Core.List.{List, [], _∷_, _++_}
 use Prim.Native.Nat.{ℕ, zero, suc, _+_, _-_, _*_, _/_, _%_, _<_, _≤_}
 use native.Mathlib.Omega.{arith}
-use lib.Dec.{leb, ltb, eqb}
-use lib.ListN.{length, getD, take, drop, length-take, List·getD-eq-default}
+use lib.Dec.{ltb, eqb}
+use lib.ListN.{length, getD, take, length-take, List·getD-eq-default}
 use lib.Seq.{ext-getD, getD-take}
-use borrow.Author.Tests.{eqb-true, eqb-false, eq-eqb, ne-eqb, ltb-true, ltb-false, lt-ltb, le-ltb, leb-true, leb-false, le-leb, lt-leb}
-use Rattle.lists.proofs.Tests.{by-test, and-left, and-right, and-true}
-use Rattle.notification.specs.Forms.{isDigit, digits, powerEnd}
+use borrow.Author.Tests.{eqb-true, eqb-false, eq-eqb, ne-eqb, ltb-true, ltb-false, lt-ltb, le-ltb}
+use Rattle.lists.proofs.Tests.{by-test}
+use Rattle.notification.specs.Forms.{digits, powerEnd}
 use Rattle.notification.specs.Writing.{powerText}
 use Rattle.reader.specs.Walking.{digitValue, powerOf}
 use Rattle.reader.specs.declared.power.Power.{Power}

@@ -1,23 +1,23 @@
 -- A name is a key's text between `NER_` and `.csv`, a header one before `;`.
 use mathlib.Core.Path.{_≡_, refl, sym, ap, _∙_}
-use mathlib.Core.Bool.{Bool, true, false, cond, not, _&&_, _||_}
-use mathlib.Core.List.{List, [], _∷_, _++_, append-assoc}
-use Prim.Native.Nat.{ℕ, zero, suc, _+_, _-_, _<_, _≤_}
+use mathlib.Core.Bool.{Bool, true, false, not, _&&_}
+use mathlib.Core.List.{List, [], _∷_, _++_}
+use Prim.Native.Nat.{ℕ, suc, _+_, _-_, _<_, _≤_}
 use native.Mathlib.Nat.{add-zero}
 use native.Mathlib.Omega.{arith}
-use lib.Dec.{ltb, leb, eqb}
-use lib.ListN.{length, getD, take, drop, length-append, length-take, length-drop, take-append-drop, drop-of-length-le}
-use lib.Seq.{take-at, drop-at, take-all, split-at, drop-drop, getD-drop, getD-at}
-use borrow.Author.Tests.{eqb-true, eq-eqb, not-true, not-false}
+use lib.Dec.{ltb, eqb}
+use lib.ListN.{length, getD, take, drop, length-append, length-drop, take-append-drop, drop-of-length-le}
+use lib.Seq.{take-at, drop-at, split-at, drop-drop, getD-drop, getD-at}
+use borrow.Author.Tests.{eqb-true, not-true, not-false}
 use Rattle.lists.specs.Searches.{same}
-use Rattle.lists.proofs.Tests.{by-test, true-false, and-left, and-right, and-true}
+use Rattle.lists.proofs.Tests.{by-test, true-false, and-left, and-right}
 use Rattle.lists.proofs.Searches.{same-refl, same-true}
 use Rattle.notification.specs.Writing.{keyText, nameOf, headerOf, formed}
 use Rattle.notification.specs.Reading.{keyIn, nameKey, headerKey, validKey, isName, isHeader}
-use Rattle.reader.specs.Parts.{noKey, found, isKey, keyRead, marked, nameRead}
+use Rattle.reader.specs.Parts.{noKey, isKey, keyRead, marked, nameRead}
 use Rattle.notification.specs.declared.Key.{Key}
 use Rattle.reader.specs.declared.keys.KeyRead.{KeyRead}
-use Rattle.notification.proofs.Lengths.{header-length, name-length, formed-parts}
+use Rattle.notification.proofs.Lengths.{header-length, name-length}
 use Rattle.notification.proofs.Names.{name-back}
 
 -- ---- what ends two texts alike tells them apart nowhere

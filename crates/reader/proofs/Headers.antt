@@ -1,17 +1,16 @@
 -- A body begins with the header of a name exactly where the parts of the name stand in it, each with its `;`.
 use mathlib.Core.Path.{_≡_, refl, sym, ap, _∙_}
-use mathlib.Core.Bool.{Bool, true, false, cond, not, _&&_, _||_}
+use mathlib.Core.Bool.{Bool, true, false, _&&_, _||_}
 use mathlib.Core.List.{List, [], _∷_, _++_, append-assoc}
-use Prim.Native.Nat.{ℕ, zero, suc, _+_, _-_, _<_, _≤_}
-use native.Mathlib.Nat.{add-zero}
+use Prim.Native.Nat.{ℕ, suc, _+_, _-_, _<_, _≤_}
 use native.Mathlib.Numerals.{add-one}
 use native.Mathlib.Omega.{arith}
-use lib.Dec.{ltb, leb, eqb}
+use lib.Dec.{leb, eqb}
 use lib.ListN.{length, getD, take, drop, length-append, length-take, length-drop}
 use lib.Seq.{take-at, take-all, take-suc, split-at, drop-drop, drop-cons, getD-drop, getD-at, getD-append-add}
-use borrow.Author.Tests.{eqb-true, eq-eqb, leb-true, le-leb, lt-leb}
+use borrow.Author.Tests.{eqb-true, eqb-false, leb-true, le-leb, lt-leb}
 use Rattle.lists.specs.Searches.{same}
-use Rattle.lists.proofs.Tests.{by-test, true-false, and-left, and-right, and-true}
+use Rattle.lists.proofs.Tests.{by-test, and-left, and-right}
 use Rattle.lists.proofs.Searches.{same-refl, same-true}
 use Rattle.lists.proofs.Parts.{drop-past}
 use Rattle.calendar.specs.Texts.{textOf}
@@ -186,8 +185,43 @@ pub headed-short : (s body : List ℕ) → length body < length s + 2 → false 
 unfolding headed
 headed-short s body h = rw (lt-leb (length s + 2) (length body) h)
 
-pub headed-rest : (s body : List ℕ) (t u v w : Bool) → length s + 2 ≤ length body → t ≡ same (take 16 body) (take 16 s) → u ≡ same (take 16 (drop 17 body)) (take 16 (drop 17 s))
-    → v ≡ same (take 8 (drop 34 body)) (take 8 (drop 34 s)) → w ≡ same (take (length s - 43) (drop 43 body)) (take (length s - 43) (drop 43 s))
-    → (eqb (getD body 16 0) 59 && eqb (getD body 33 0) 59 && eqb (getD body 42 0) 59 && eqb (getD body (length s) 0) 59 && eqb (getD body (length s + 1) 0) 10 && t && u && v && w) ≡ headed s body
+-- the five or six bytes of a category
+category-same : (s body : List ℕ) → 48 ≤ length s → length s ≤ 49 → length s ≤ length body
+    → (same (take 5 (drop 43 body)) (take 5 (drop 43 s)) && (eqb (length s) 48 || eqb (getD body 48 0) (getD s 48 0)))
+    ≡ same (take (length s - 43) (drop 43 body)) (take (length s - 43) (drop 43 s))
+category-same s body h k l =
+    by-test (eqb (length s) 48)
+    (λ t. let e = eqb-true (length s) 48 t in
+    let n : length s - 43 ≡ 5 = omega arith in
+    rw (t, n) (and-end (same (take 5 (drop 43 body)) (take 5 (drop 43 s)))))
+    (λ t. let f = eqb-false (length s) 48 t in
+    let m : length s ≡ 49 = long f in
+    let n : length s - 43 ≡ 5 + 1 = omega arith in
+    let ls : 5 < length (drop 43 s) = rw length-drop (omega arith) in
+    let lb : 5 < length (drop 43 body) = rw length-drop (omega arith) in
+    let ps : length (take 5 (drop 43 body)) ≡ length (take 5 (drop 43 s)) = rw (length-take, length-take) (omega arith) in
+    let q = same-more (take 5 (drop 43 body)) (take 5 (drop 43 s)) (getD (drop 43 body) 5 0) (getD (drop 43 s) 5 0) ps in
+    let gb = getD-drop 43 body 5 0 in
+    let gs = getD-drop 43 s 5 0 in
+    rw (t, n, add-one, take-suc (drop 43 body) 5 0 lb, take-suc (drop 43 s) 5 0 ls) (rw (← gb, ← gs) (sym q)))
+  where
+    long : (length s ≡ 48 → ⊥) → length s ≡ 49
+    long f = omega arith
+
+    and-end : (b : Bool) → (b && true) ≡ b
+    and-end true = refl
+    and-end false = refl
+
+and-assoc : (a b c : Bool) → ((a && b) && c) ≡ (a && (b && c))
+and-assoc true b c = refl
+and-assoc false b c = refl
+
+pub headed-rest : (s body : List ℕ) (t u v w : Bool) (x : ℕ) → 48 ≤ length s → length s ≤ 49 → length s + 2 ≤ length body → t ≡ same (take 16 body) (take 16 s) → u ≡ same (take 16 (drop 17 body)) (take 16 (drop 17 s))
+    → v ≡ same (take 8 (drop 34 body)) (take 8 (drop 34 s)) → w ≡ same (take 5 (drop 43 body)) (take 5 (drop 43 s)) → x ≡ getD s 48 0
+    → (eqb (getD body 16 0) 59 && eqb (getD body 33 0) 59 && eqb (getD body 42 0) 59 && eqb (getD body (length s) 0) 59 && eqb (getD body (length s + 1) 0) 10 && t && u && v && w && (eqb (length s) 48 || eqb (getD body 48 0) x)) ≡ headed s body
 unfolding headed
-headed-rest s body t u v w h p q r o = rw (le-leb (length s + 2) (length body) h, p, q, r, o)
+headed-rest s body t u v w x a b h p q r o z =
+    let m = category-same s body a b (omega arith) in
+    let front = eqb (getD body 16 0) 59 && eqb (getD body 33 0) 59 && eqb (getD body 42 0) 59 && eqb (getD body (length s) 0) 59 && eqb (getD body (length s + 1) 0) 10 && t && u && v in
+    rw (le-leb (length s + 2) (length body) h, ← m)
+    (and-assoc front w (eqb (length s) 48 || eqb (getD body 48 0) x) ∙ rw (p, q, r, o, z))

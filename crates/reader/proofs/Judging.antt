@@ -1,27 +1,23 @@
 -- A step's line: its labels by their two texts, and its power by its bytes.
 use mathlib.Core.Path.{_≡_, refl, sym, ap, _∙_}
-use mathlib.Core.Bool.{Bool, true, false, cond, not, _&&_, false≢true}
+use mathlib.Core.Bool.{Bool, true, false, not, _&&_}
 use mathlib.Core.List.{List, [], _∷_, _++_, append-assoc}
-use Prim.Native.Nat.{ℕ, zero, suc, _+_, _-_, _<_, _≤_}
+use Prim.Native.Nat.{ℕ, _+_, _-_, _<_, _≤_}
 use native.Mathlib.Nat.{add-zero}
 use native.Mathlib.Numerals.{add-one}
 use native.Mathlib.Omega.{arith}
-use lib.Dec.{leb, ltb, eqb}
 use lib.ListN.{length, getD, take, drop, length-append, length-take, length-drop}
-use lib.Seq.{getD-drop, take-all, length-take-le}
+use lib.Seq.{getD-drop, take-all}
 use borrow.Author.Tests.{lt-ltb, le-leb, not-true, not-false}
-use Rattle.lists.specs.Searches.{same}
-use Rattle.lists.proofs.Tests.{by-test, true-false, and-left, and-right, and-true}
-use Rattle.calendar.specs.Labels.{againAt, labelOf, labelsOf, labelsAt, inDay}
-use Rattle.calendar.specs.declared.labels.Label.{Label}
+use Rattle.lists.proofs.Tests.{by-test}
+use Rattle.calendar.specs.Labels.{againAt, labelOf, labelsOf, labelsAt}
 use Rattle.calendar.specs.declared.labels.Labels.{Labels}
-use Rattle.notification.specs.Forms.{powerEnd, places}
+use Rattle.notification.specs.Forms.{places}
 use Rattle.notification.specs.Writing.{labelText, labelsText, powerText}
 use Rattle.notification.specs.Reading.{hasLabels, restOf, valueOf, isPower}
 use Rattle.reader.specs.Walking.{startsWith, powerOf, linePower}
 use Rattle.reader.specs.declared.power.Power.{Power}
 use Rattle.reader.specs.declared.power.Power.the-variants.{Is, Not}
-use Rattle.reader.specs.declared.tally.LinePower.{LinePower}
 use Rattle.reader.specs.declared.tally.LinePower.the-variants.{Gives, NoLabels, NoPower}
 use Rattle.notification.proofs.Powers.{value-power, power-made, power-back}
 use Rattle.reader.proofs.Figures.{powerIn, power-sound, power-found}

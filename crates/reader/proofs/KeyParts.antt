@@ -1,13 +1,13 @@
 -- A text is a key's exactly where each of its parts is valid and stands in its place.
 use mathlib.Core.Path.{_≡_, refl, sym, ap, _∙_}
-use mathlib.Core.Bool.{Bool, true, false, cond, not, _&&_, _||_}
+use mathlib.Core.Bool.{Bool, true, false, not, _&&_, _||_}
 use mathlib.Core.List.{List, [], _∷_, _++_}
-use Prim.Native.Nat.{ℕ, zero, suc, _+_, _-_, _<_, _≤_, min}
+use Prim.Native.Nat.{ℕ, _+_, _-_, _<_, _≤_}
 use native.Mathlib.Omega.{arith}
-use lib.Dec.{ltb, leb, eqb}
-use lib.ListN.{length, getD, take, drop, length-append, length-take, length-drop}
-use lib.Seq.{take-at, take-all, split-at, drop-drop, getD-drop, getD-at, getD-append-seam}
-use borrow.Author.Tests.{eqb-true, eq-eqb, ne-eqb, ltb-true, lt-ltb, not-true, not-false}
+use lib.Dec.{ltb, eqb}
+use lib.ListN.{length, getD, take, drop, length-append, length-drop}
+use lib.Seq.{take-at, take-all, split-at, drop-drop, getD-drop, getD-at}
+use borrow.Author.Tests.{eqb-true, eq-eqb, ltb-true, lt-ltb, not-true, not-false}
 use Rattle.lists.specs.Searches.{every, same}
 use Rattle.lists.proofs.Tests.{by-test, true-false, and-left, and-right, and-true, or-cases}
 use Rattle.lists.proofs.Searches.{same-refl, same-true}
@@ -20,8 +20,6 @@ use Rattle.notification.specs.Forms.{isDigit, isCode, isCategory, sixBytes, cat
 use Rattle.notification.specs.Writing.{keyText, formed}
 use Rattle.notification.specs.Reading.{dayNumber, keyIn, validKey}
 use Rattle.reader.specs.Parts.{noKey, found, isKey, keyRead}
-use Rattle.notification.specs.declared.Key.{Key}
-use Rattle.reader.specs.declared.keys.KeyRead.{KeyRead}
 use Rattle.notification.proofs.Lengths.{date-length, formed-parts, key-length}
 
 -- the rest of a text, taken whole

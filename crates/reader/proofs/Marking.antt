@@ -1,13 +1,13 @@
 -- A line that begins with the marks of its step's two boundaries begins with their labels, and is taken as its power.
 use mathlib.Core.Path.{_≡_, refl, sym, ap, _∙_}
-use mathlib.Core.Bool.{Bool, true, false, cond, not, _&&_, _||_}
+use mathlib.Core.Bool.{Bool, true, false, not, _&&_, _||_}
 use mathlib.Core.List.{List, [], _∷_, _++_, append-assoc}
-use Prim.Native.Nat.{ℕ, zero, suc, _+_, _-_, _*_, _/_, _%_, _<_, _≤_, min}
+use Prim.Native.Nat.{ℕ, suc, _+_, _-_, _*_, _/_, _%_, _<_, _≤_, min}
 use native.Mathlib.Nat.{add-zero}
 use native.Mathlib.Numerals.{add-one}
 use native.Mathlib.Omega.{arith}
 use lib.Dec.{leb, ltb, eqb}
-use lib.ListN.{length, getD, take, drop, set, length-drop, take-append-drop, List·getD-eq-default}
+use lib.ListN.{length, getD, drop, set, length-drop, take-append-drop, List·getD-eq-default}
 use lib.Seq.{drop-drop, drop-cons, getD-drop}
 use borrow.Author.Tests.{eqb-true, eqb-false, ne-eqb, lt-ltb, le-ltb, lt-leb, ltb-true, ltb-false}
 use Rattle.lists.proofs.Tests.{by-test, and-left, and-right}
@@ -19,26 +19,25 @@ use Rattle.refusals.specs.declared.Verdict.{Verdict}
 use Rattle.refusals.specs.declared.Verdict.the-variants.{Pass}
 use Rattle.notification.specs.Forms.{powerEnd, places}
 use Rattle.notification.specs.Writing.{labelText, labelsText, powerText}
-use Rattle.notification.specs.Reading.{linesIn, hasLabels, restOf, valueOf, isPower}
-use Rattle.reader.specs.Walking.{six, noMark, timeMark, timeMarks, halfHours, markOf, Plain, powerOf, LineAt, LineSays, Taken, credited, takeLine, takeLines}
-use Rattle.reader.specs.declared.power.Power.{Power}
-use Rattle.reader.specs.declared.power.Power.the-variants.{Is, Not}
+use Rattle.notification.specs.Reading.{linesIn, hasLabels, restOf, isPower}
+use Rattle.reader.specs.Walking.{sixAt, six, noMark, timeMark, timesText, halfHours, markOf, Plain, powerOf, LineAt, Taken, takeLine, takeLines}
+use Rattle.reader.specs.declared.power.Power.the-variants.{Is}
 use Rattle.reader.specs.declared.tally.Tally.{Tally}
-use Rattle.notification.proofs.Lines.{inLine, lines-first}
+use Rattle.notification.proofs.Lines.{lines-first}
 use Rattle.notification.proofs.Breaks.{line-in}
-use Rattle.notification.proofs.Steps.{lineOf, line-made, line-value, goodLine}
+use Rattle.notification.proofs.Steps.{lineOf, line-made, line-value}
 use Rattle.reader.proofs.Figures.{powerIn, power-sound}
 use Rattle.reader.proofs.Tallies.{line-good, takes-cons, or-zero, or-none}
 
 -- ---- the marks, as a reader makes them
 
--- each mark of the table is that of its time
+-- the bytes of each time in the list of them
 right-mark : ℕ → Bool
-right-mark j = eqb (getD timeMarks j 0) (timeMark j)
+right-mark j = eqb (sixAt timesText (6 * j)) (timeMark j)
 
-time-marks : (j : ℕ) → j < 49 → getD timeMarks j 0 ≡ timeMark j
-unfolding timeMarks right-mark
-time-marks j h = eqb-true (getD timeMarks j 0) (timeMark j) (true-of (right-mark j) (below right-mark 49 tt j h))
+time-marks : (j : ℕ) → j < 49 → sixAt timesText (6 * j) ≡ timeMark j
+unfolding timesText right-mark
+time-marks j h = eqb-true (sixAt timesText (6 * j)) (timeMark j) (true-of (right-mark j) (below right-mark 49 tt j h))
 
 pub turn-short : (steps : ℕ) → steps < plainSteps → 4 ≡ turnOf steps
 turn-short steps h = rw (lt-ltb steps plainSteps h)
@@ -142,17 +141,11 @@ module _ (steps k : ℕ) (w : k ≤ steps) (g : steps ≤ places) where
           let n : halfHours steps i ≡ halfHours steps k + (i - k) = omega arith in
           plain-mark steps i (rw f (never (turnOf steps) i)) ∙ ap timeMark n
 
--- the mark of a boundary in a table
-pub table-mark : (steps k r i j : ℕ) → Plain steps k r → k ≤ i → i ≤ r → j ≡ halfHours steps k + (i - k) → getD timeMarks j 0 ≡ markOf steps i
+-- the bytes at a place of the list of times are the mark of a boundary
+pub table-mark : (steps k r i j : ℕ) → Plain steps k r → k ≤ i → i ≤ r → j ≡ 6 * (halfHours steps k + (i - k)) → sixAt timesText j ≡ markOf steps i
 table-mark steps k r i j p a b e =
     let s = p .small in
-    time-marks j (omega arith) ∙ (ap timeMark e ∙ sym (p .marks i a b))
-
-pub table-small : (steps k r i : ℕ) → Plain steps k r → k ≤ i → i ≤ r → markOf steps i < noMark
-table-small steps k r i p a b =
-    let s = p .small in
-    let l : halfHours steps k + (i - k) < 49 = omega arith in
-    rw (p .marks i a b) (time-small (halfHours steps k + (i - k)) l)
+    ap (sixAt timesText) e ∙ (time-marks (halfHours steps k + (i - k)) (omega arith) ∙ sym (p .marks i a b))
 
 -- a sum is 0 where both parts are
 pub sum-zero : (a : Bool) (s v : ℕ) → ((a || not (eqb s 0)) || not (eqb v 0)) ≡ (a || not (eqb (s + v) 0))
@@ -198,39 +191,52 @@ halves : (a b p q : ℕ) → a < noMark → b < noMark → a + noMark * p ≡ b 
 halves a b p q h k e = (omega arith, omega arith)
 
 -- twelve bytes as eight and four
-pub marks-six : (a b c d e f g h i j k l from until x y z : ℕ) → Bytes a b c d e f → Bytes g h i j k l → from < noMark
-    → x ≡ a + 256 * (b + 256 * (c + 256 * d)) → y ≡ e + 256 * (f + 256 * (g + 256 * h)) → z ≡ i + 256 * (j + 256 * (k + 256 * l))
-    → x + y * 4294967296 ≡ from + until % 65536 * noMark → z ≡ until / 65536
-    → (six a b c d e f ≡ from) × (six g h i j k l ≡ until)
-marks-six a b c d e f g h i j k l from until x y z r s n p q o m w =
-    let u : six a b c d e f + noMark * (g + 256 * h) ≡ from + noMark * (until % 65536) = omega arith in
-    let v = halves (six a b c d e f) from (g + 256 * h) (until % 65536) (six-small a b c d e f r) n u in
-    let t : until % 65536 + 65536 * (until / 65536) ≡ until = omega arith in
+same-twelve : (a b c d e f g h i j k l a' b' c' d' e' f' g' h' i' j' k' l' : ℕ) → Bytes a b c d e f → Bytes g h i j k l → Bytes a' b' c' d' e' f' → Bytes g' h' i' j' k' l'
+    → (a + 256 * (b + 256 * (c + 256 * d))) + (e + 256 * (f + 256 * (g + 256 * h))) * 4294967296 ≡ (a' + 256 * (b' + 256 * (c' + 256 * d'))) + (e' + 256 * (f' + 256 * (g' + 256 * h'))) * 4294967296
+    → i + 256 * (j + 256 * (k + 256 * l)) ≡ i' + 256 * (j' + 256 * (k' + 256 * l'))
+    → (six a b c d e f ≡ six a' b' c' d' e' f') × (six g h i j k l ≡ six g' h' i' j' k' l')
+same-twelve a b c d e f g h i j k l a' b' c' d' e' f' g' h' i' j' k' l' r s r' s' m w =
+    let u : six a b c d e f + noMark * (g + 256 * h) ≡ six a' b' c' d' e' f' + noMark * (g' + 256 * h') = omega arith in
+    let v = halves (six a b c d e f) (six a' b' c' d' e' f') (g + 256 * h) (g' + 256 * h') (six-small a b c d e f r) (six-small a' b' c' d' e' f' r') u in
     (v .0, omega (arith, v .1))
 
--- the two numbers that a reader compares
-pub marks-flag : (s : List ℕ) (a from until x y z : ℕ) → ((i : ℕ) → getD s i 0 < 256) → from < noMark
-    → x ≡ getD s a 0 + 256 * (getD s (a + 1) 0 + 256 * (getD s (a + 2) 0 + 256 * getD s (a + 3) 0))
-    → y ≡ getD s (a + 4) 0 + 256 * (getD s (a + 4 + 1) 0 + 256 * (getD s (a + 4 + 2) 0 + 256 * getD s (a + 4 + 3) 0))
-    → z ≡ getD s (a + 8) 0 + 256 * (getD s (a + 8 + 1) 0 + 256 * (getD s (a + 8 + 2) 0 + 256 * getD s (a + 8 + 3) 0))
-    → (eqb (x + y * 4294967296) (from + until % 65536 * noMark) && eqb z (until / 65536)) ≡ true
-    → (six (getD s a 0) (getD s (a + 1) 0) (getD s (a + 2) 0) (getD s (a + 3) 0) (getD s (a + 4) 0) (getD s (a + 5) 0) ≡ from)
-    × (six (getD s (a + 6) 0) (getD s (a + 7) 0) (getD s (a + 8) 0) (getD s (a + 9) 0) (getD s (a + 10) 0) (getD s (a + 11) 0) ≡ until)
-marks-flag s a from until x y z h n p q r e =
-    let l = eqb (x + y * 4294967296) (from + until % 65536 * noMark) in
-    let m = eqb z (until / 65536) in
+-- the bytes at a place, as a reader reads them
+abbrev fourAt : List ℕ → ℕ → ℕ
+fourAt s a = getD s a 0 + 256 * (getD s (a + 1) 0 + 256 * (getD s (a + 2) 0 + 256 * getD s (a + 3) 0))
+
+bytes-at : (s : List ℕ) (a : ℕ) → ((j : ℕ) → getD s j 0 < 256) → Bytes (getD s a 0) (getD s (a + 1) 0) (getD s (a + 2) 0) (getD s (a + 3) 0) (getD s (a + 4) 0) (getD s (a + 5) 0)
+bytes-at s a h = record { b0 = h a; b1 = h (a + 1); b2 = h (a + 2); b3 = h (a + 3); b4 = h (a + 4); b5 = h (a + 5) }
+
+middle : (s : List ℕ) (a : ℕ) → fourAt s (a + 4) ≡ getD s (a + 4) 0 + 256 * (getD s (a + 5) 0 + 256 * (getD s (a + 6) 0 + 256 * getD s (a + 6 + 1) 0))
+middle s a =
     let q1 : a + 4 + 1 ≡ a + 5 = omega arith in
     let q2 : a + 4 + 2 ≡ a + 6 = omega arith in
-    let q3 : a + 4 + 3 ≡ a + 7 = omega arith in
-    let r1 : a + 8 + 1 ≡ a + 9 = omega arith in
-    let r2 : a + 8 + 2 ≡ a + 10 = omega arith in
-    let r3 : a + 8 + 3 ≡ a + 11 = omega arith in
-    marks-six (getD s a 0) (getD s (a + 1) 0) (getD s (a + 2) 0) (getD s (a + 3) 0) (getD s (a + 4) 0) (getD s (a + 5) 0)
-    (getD s (a + 6) 0) (getD s (a + 7) 0) (getD s (a + 8) 0) (getD s (a + 9) 0) (getD s (a + 10) 0) (getD s (a + 11) 0) from until x y z
-    (record { b0 = h a; b1 = h (a + 1); b2 = h (a + 2); b3 = h (a + 3); b4 = h (a + 4); b5 = h (a + 5) })
-    (record { b0 = h (a + 6); b1 = h (a + 7); b2 = h (a + 8); b3 = h (a + 9); b4 = h (a + 10); b5 = h (a + 11) })
-    n p (rw (q1, q2, q3) at q) (rw (r1, r2, r3) at r)
-    (eqb-true (x + y * 4294967296) (from + until % 65536 * noMark) (and-left l m e)) (eqb-true z (until / 65536) (and-right l m e))
+    let q3 : a + 4 + 3 ≡ a + 6 + 1 = omega arith in
+    rw (q1, q2, q3)
+
+final : (s : List ℕ) (a : ℕ) → fourAt s (a + 8) ≡ getD s (a + 6 + 2) 0 + 256 * (getD s (a + 6 + 3) 0 + 256 * (getD s (a + 6 + 4) 0 + 256 * getD s (a + 6 + 5) 0))
+final s a =
+    let q0 : a + 8 ≡ a + 6 + 2 = omega arith in
+    let q1 : a + 6 + 2 + 1 ≡ a + 6 + 3 = omega arith in
+    let q2 : a + 6 + 2 + 2 ≡ a + 6 + 4 = omega arith in
+    let q3 : a + 6 + 2 + 3 ≡ a + 6 + 5 = omega arith in
+    rw (q0, q1, q2, q3)
+
+-- the two numbers that a reader compares
+pub marks-flag : (s t : List ℕ) (a i x y z x' y' z' : ℕ) → ((j : ℕ) → getD s j 0 < 256) → ((j : ℕ) → getD t j 0 < 256)
+    → x ≡ fourAt s a → y ≡ fourAt s (a + 4) → z ≡ fourAt s (a + 8) → x' ≡ fourAt t i → y' ≡ fourAt t (i + 4) → z' ≡ fourAt t (i + 8)
+    → (eqb (x + y * 4294967296) (x' + y' * 4294967296) && eqb z z') ≡ true
+    → (sixAt s a ≡ sixAt t i) × (sixAt s (a + 6) ≡ sixAt t (i + 6))
+marks-flag s t a i x y z x' y' z' h g p q r p' q' r' e =
+    let l = eqb (x + y * 4294967296) (x' + y' * 4294967296) in
+    let m = eqb z z' in
+    let u = rw (p, q, p', q', middle s a, middle t i) at (eqb-true (x + y * 4294967296) (x' + y' * 4294967296) (and-left l m e)) in
+    let v = rw (r, r', final s a, final t i) at (eqb-true z z' (and-right l m e)) in
+    same-twelve (getD s a 0) (getD s (a + 1) 0) (getD s (a + 2) 0) (getD s (a + 3) 0) (getD s (a + 4) 0) (getD s (a + 5) 0)
+    (getD s (a + 6) 0) (getD s (a + 6 + 1) 0) (getD s (a + 6 + 2) 0) (getD s (a + 6 + 3) 0) (getD s (a + 6 + 4) 0) (getD s (a + 6 + 5) 0)
+    (getD t i 0) (getD t (i + 1) 0) (getD t (i + 2) 0) (getD t (i + 3) 0) (getD t (i + 4) 0) (getD t (i + 5) 0)
+    (getD t (i + 6) 0) (getD t (i + 6 + 1) 0) (getD t (i + 6 + 2) 0) (getD t (i + 6 + 3) 0) (getD t (i + 6 + 4) 0) (getD t (i + 6 + 5) 0)
+    (bytes-at s a h) (bytes-at s (a + 6) h) (bytes-at t i g) (bytes-at t (i + 6) g) u v
 
 -- ---- a mark and its label
 
@@ -293,8 +299,7 @@ there s i e =
     (λ t. absurd (omega (arith, List·getD-eq-default s 0 (ltb-false i (length s) t))))
 
 pub line-at : (s : List ℕ) (at from until v n b : ℕ) → ((i : ℕ) → getD s i 0 < 256)
-    → (six (getD s at 0) (getD s (at + 1) 0) (getD s (at + 2) 0) (getD s (at + 3) 0) (getD s (at + 4) 0) (getD s (at + 5) 0) ≡ from)
-    × (six (getD s (at + 6) 0) (getD s (at + 7) 0) (getD s (at + 8) 0) (getD s (at + 9) 0) (getD s (at + 10) 0) (getD s (at + 11) 0) ≡ until)
+    → (sixAt s at ≡ from) × (sixAt s (at + 6) ≡ until)
     → Is v n ≡ powerOf (getD s (at + 12) 0) (getD s (at + 12 + 1) 0) (getD s (at + 12 + 2) 0) (getD s (at + 12 + 3) 0) (getD s (at + 12 + 4) 0)
     → b ≡ getD s (at + 12 + n) 0 → b ≡ 10 → LineAt s at from until v (n + 13)
 line-at s at from until v n b h m p q e =
@@ -302,6 +307,11 @@ line-at s at from until v n b h m p q e =
     let j : n + 13 - 13 ≡ n = omega arith in
     let l = there s (at + 12 + n) (sym q ∙ e) in
     record { bytes = h; first = m .0; second = m .1; power = ap (λ (o : ℕ). Is v o) j ∙ p; break = ap (λ (o : ℕ). getD s o 0) i ∙ (sym q ∙ e); more = omega arith; within = omega arith }
+
+-- the same line, with its marks said otherwise
+pub as-marks : {s : List ℕ} {at v n a b c d : ℕ} → a ≡ c → b ≡ d → LineAt s at a b v n → LineAt s at c d v n
+as-marks e f l =
+    record { bytes = l .bytes; first = l .first ∙ e; second = l .second ∙ f; power = l .power; break = l .break; more = l .more; within = l .within }
 
 -- ---- its text
 
@@ -316,11 +326,11 @@ six-split (a ∷ b ∷ c ∷ d ∷ e ∷ []) h = absurd (omega arith)
 
 -- six bytes at a place that are a mark are its label
 six-label : (s : List ℕ) (i steps at : ℕ) → i + 6 ≤ length s → ((j : ℕ) → getD s j 0 < 256) → at ≤ steps → steps ≤ places
-    → six (getD s i 0) (getD s (i + 1) 0) (getD s (i + 2) 0) (getD s (i + 3) 0) (getD s (i + 4) 0) (getD s (i + 5) 0) ≡ markOf steps at
+    → sixAt s i ≡ markOf steps at
     → drop i s ≡ (labelText steps at ++ 59 ∷ []) ++ drop (i + 6) s
 six-label s i steps at l h g k m =
     let n : 6 ≤ length (drop i s) = rw length-drop (omega arith) in
-    let b : Bytes (getD s i 0) (getD s (i + 1) 0) (getD s (i + 2) 0) (getD s (i + 3) 0) (getD s (i + 4) 0) (getD s (i + 5) 0) = record { b0 = h i; b1 = h (i + 1); b2 = h (i + 2); b3 = h (i + 3); b4 = h (i + 4); b5 = h (i + 5) } in
+    let b = bytes-at s i h in
     let t = label-mark steps at (getD s i 0) (getD s (i + 1) 0) (getD s (i + 2) 0) (getD s (i + 3) 0) (getD s (i + 4) 0) (getD s (i + 5) 0) g k b m in
     let u = rw (getD-drop i s 0 0, getD-drop i s 1 0, getD-drop i s 2 0, getD-drop i s 3 0, getD-drop i s 4 0, getD-drop i s 5 0, add-zero, drop-drop 6 i s) at (six-split (drop i s) n) in
     u ∙ ap (λ (r : List ℕ). r ++ drop (i + 6) s) t
@@ -369,13 +379,8 @@ module _ (steps k : ℕ) (s : List ℕ) (at v n : ℕ) (h : k < steps) (g : step
       let m = l .more in
       let w = l .within in
       let q6 : at + 6 + 6 ≡ at + 12 = omega arith in
-      let q1 : at + 6 + 1 ≡ at + 7 = omega arith in
-      let q2 : at + 6 + 2 ≡ at + 8 = omega arith in
-      let q3 : at + 6 + 3 ≡ at + 9 = omega arith in
-      let q4 : at + 6 + 4 ≡ at + 10 = omega arith in
-      let q5 : at + 6 + 5 ≡ at + 11 = omega arith in
       let a = six-label s at steps k (omega arith) (l .bytes) (omega arith) g (l .first) in
-      let b = six-label s (at + 6) steps (k + 1) (omega arith) (l .bytes) (omega arith) g (rw (q1, q2, q3, q4, q5) (l .second)) in
+      let b = six-label s (at + 6) steps (k + 1) (omega arith) (l .bytes) (omega arith) g (l .second) in
       let c : drop (at + 6) s ≡ (labelText steps (suc k) ++ 59 ∷ []) ++ drop (at + 12) s = rw (q6, add-one k) at b in
       a ∙ (ap (λ (r : List ℕ). (labelText steps k ++ 59 ∷ []) ++ r) (c ∙ ap (λ (r : List ℕ). (labelText steps (suc k) ++ 59 ∷ []) ++ r) after-power) ∙ simp append-assoc)
 

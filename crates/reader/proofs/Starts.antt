@@ -1,17 +1,17 @@
 -- What a text begins with, part by part.
 use mathlib.Core.Path.{_≡_, refl, sym, ap, _∙_}
-use mathlib.Core.Bool.{Bool, true, false, cond, not, _&&_, false≢true}
+use mathlib.Core.Bool.{Bool, true, false, _&&_}
 use mathlib.Core.List.{List, [], _∷_, _++_}
-use Prim.Native.Nat.{ℕ, zero, suc, _+_, _-_, _<_, _≤_}
+use Prim.Native.Nat.{ℕ, _+_, _-_, _<_, _≤_}
 use native.Mathlib.Numerals.{add-one}
 use native.Mathlib.Omega.{arith}
-use lib.Dec.{leb, ltb, eqb}
+use lib.Dec.{eqb}
 use lib.ListN.{length, getD, take, drop, length-append, length-take, length-drop, List·getD-append}
-use lib.Seq.{take-suc, length-take-le, getD-take, getD-drop, getD-append-seam}
-use borrow.Author.Tests.{eqb-true, eq-eqb, ltb-true, ltb-false}
+use lib.Seq.{take-suc, length-take-le, getD-take, getD-drop}
+use borrow.Author.Tests.{eq-eqb}
 use Rattle.lists.specs.Searches.{same}
-use Rattle.lists.proofs.Tests.{by-test, true-false, and-left, and-right, and-true}
-use Rattle.lists.proofs.Searches.{same-refl, same-true}
+use Rattle.lists.proofs.Tests.{by-test}
+use Rattle.lists.proofs.Searches.{same-true}
 use Rattle.reader.specs.Walking.{startsWith}
 
 -- ---- two parts
@@ -40,11 +40,6 @@ starts-not : (t s : List ℕ) → (take (length t) s ≡ t → ⊥) → false �
 unfolding startsWith
 starts-not t s f =
     by-test (startsWith t s) (λ e. absurd (f (same-true (take (length t) s) t e))) (λ e. sym e)
-
-pub starts-made : (t s : List ℕ) → startsWith t (t ++ s) ≡ true
-unfolding startsWith same
-starts-made [] s = refl
-starts-made (x ∷ t) s = and-true (eqb x x) (startsWith t (t ++ s)) (eq-eqb x x refl) (starts-made t s)
 
 -- one byte at the end of them
 and-end : (a : Bool) → a ≡ (a && true)

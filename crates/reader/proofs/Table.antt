@@ -1,16 +1,16 @@
 -- The table of refusals, row by row, as the reader goes through it.
 use mathlib.Core.Path.{_≡_, refl, sym, ap, _∙_}
-use mathlib.Core.Bool.{Bool, true, false, cond, not, _&&_, _||_}
+use mathlib.Core.Bool.{Bool, true, false, not, _&&_}
 use mathlib.Core.List.{List, [], _∷_, _++_}
-use Prim.Native.Nat.{ℕ, zero, suc, _+_, _-_, _<_, _≤_, min}
+use Prim.Native.Nat.{ℕ, _+_, _-_, _<_, _≤_, min}
 use native.Mathlib.Nat.{zero-add}
 use native.Mathlib.Omega.{arith}
 use lib.Dec.{ltb, leb, eqb}
 use lib.ListN.{length, getD, take, drop, replicate, length-append, length-take, length-drop}
 use lib.Seq.{take-all, take-at}
-use borrow.Author.Tests.{eqb-true, eqb-false, eq-eqb, ne-eqb, ltb-true, ltb-false, lt-ltb, le-ltb, not-true, not-false}
+use borrow.Author.Tests.{eqb-true, eqb-false, eq-eqb, ne-eqb, ltb-true, ltb-false, lt-ltb, le-ltb}
 use Rattle.lists.specs.Searches.{every, same}
-use Rattle.lists.proofs.Tests.{by-test, true-false, and-left, and-right, and-true}
+use Rattle.lists.proofs.Tests.{by-test, true-false, and-left, and-right}
 use Rattle.lists.proofs.Searches.{same-refl, same-true, every-at}
 use Rattle.calendar.specs.Steps.{stepsOf}
 use Rattle.calendar.proofs.StepCounts.{steps-small}
@@ -18,22 +18,20 @@ use Rattle.refusals.specs.Tests.{Test, input, firstMet, decide}
 use Rattle.refusals.specs.declared.Refusal.{Refusal}
 use Rattle.refusals.specs.declared.Refusal.the-variants.{Input}
 use Rattle.refusals.specs.declared.InputRefusal.the-variants.{Name, Body, Header, Differs, Lines, Zeros}
-use Rattle.refusals.specs.declared.Verdict.{Verdict}
 use Rattle.refusals.specs.declared.Verdict.the-variants.{Pass, No}
 use Rattle.notification.specs.Forms.{inPlaces, places, allZero}
 use Rattle.notification.specs.Writing.{nameOf, headerOf, keyText, formed}
-use Rattle.notification.specs.Reading.{keyIn, nameKey, isName, isHeader, linesIn, isBody, bodyMost, headLine, stepLines, firstBad, lineRefusal, powersIn, fileTests, noteIn, accepted, refused, readFile}
-use Rattle.reader.specs.Parts.{found, noKey, isKey, nameRead, headed, otherHeader}
+use Rattle.notification.specs.Reading.{nameKey, isName, isHeader, linesIn, isBody, bodyMost, headLine, stepLines, firstBad, lineRefusal, powersIn, fileTests, noteIn, accepted, refused, readFile}
+use Rattle.reader.specs.Parts.{found, noKey, nameRead, headed, otherHeader}
 use Rattle.reader.specs.Walking.{Taken, LineEnd, noLines, takeLines, judgement}
 use Rattle.notification.specs.declared.Key.{Key}
-use Rattle.notification.specs.declared.Notification.{Notification}
 use Rattle.notification.specs.declared.Reading.{Reading}
 use Rattle.reader.specs.declared.keys.KeyRead.{KeyRead}
 use Rattle.reader.specs.declared.tally.Tally.{Tally}
 use Rattle.notification.proofs.Lines.{inLine, joined, lines-first}
 use Rattle.notification.proofs.Lengths.{formed-parts, name-length}
 use Rattle.notification.proofs.Breaks.{header-in}
-use Rattle.notification.proofs.Names.{name-back, Named, header-made}
+use Rattle.notification.proofs.Names.{name-back, header-made}
 use Rattle.notification.proofs.Bodies.{body-back}
 use Rattle.notification.proofs.Steps.{powers-length}
 use Rattle.reader.proofs.Ends.{lines-here}

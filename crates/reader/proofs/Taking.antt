@@ -1,11 +1,10 @@
 -- What one line adds to what is kept, by what the line says.
 use mathlib.Core.Path.{_≡_, refl, sym, ap, _∙_}
-use mathlib.Core.Bool.{Bool, true, false, cond, not, _&&_, _||_, false≢true}
-use mathlib.Core.List.{List, [], _∷_, _++_}
-use Prim.Native.Nat.{ℕ, zero, suc, _+_, _-_, _<_, _≤_}
-use native.Mathlib.Omega.{arith}
-use lib.Dec.{leb, ltb, eqb}
-use lib.ListN.{length, set}
+use mathlib.Core.Bool.{Bool, true, false, not, _||_, false≢true}
+use mathlib.Core.List.{List}
+use Prim.Native.Nat.{ℕ, _+_, _-_, _<_}
+use lib.Dec.{leb}
+use lib.ListN.{set}
 use borrow.Author.Tests.{leb-false, not-false}
 use Rattle.lists.proofs.Tests.{or-left, or-right}
 use Rattle.refusals.specs.declared.Refusal.the-variants.{Input}

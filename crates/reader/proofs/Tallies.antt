@@ -3,14 +3,13 @@ use mathlib.Core.Path.{_≡_, refl, sym, ap, subst, _∙_}
 use mathlib.Core.Bool.{Bool, true, false, cond, not, _&&_, _||_}
 use mathlib.Core.List.{List, [], _∷_, _++_}
 use Prim.Native.Nat.{ℕ, zero, suc, _+_, _-_, _<_, _≤_, min}
-use native.Mathlib.Nat.{add-zero, zero-add}
-use native.Mathlib.Numerals.{add-one}
+use native.Mathlib.Nat.{zero-add}
 use native.Mathlib.Omega.{arith}
 use lib.Dec.{leb, ltb, eqb}
-use lib.ListN.{length, getD, take, drop, set, replicate, length-replicate, drop-of-length-le}
+use lib.ListN.{length, getD, drop, set, replicate, length-replicate, drop-of-length-le}
 use lib.Seq.{drop-cons, sets, sets-eq}
 use borrow.Author.Tests.{lt-ltb, le-ltb, lt-leb}
-use Rattle.lists.specs.Searches.{every, firstFrom}
+use Rattle.lists.specs.Searches.{firstFrom}
 use Rattle.lists.proofs.Tests.{by-test}
 use Rattle.refusals.specs.Tests.{firstMet}
 use Rattle.refusals.specs.declared.Refusal.{Refusal}
@@ -21,12 +20,10 @@ use Rattle.refusals.specs.declared.Verdict.the-variants.{Pass, No}
 use Rattle.refusals.proofs.Tests.{refused-pass}
 use Rattle.notification.specs.Forms.{places, inPlaces, allZero}
 use Rattle.notification.specs.Reading.{hasLabels, restOf, valueOf, isPower, badLine, firstBad, lineRefusal, powersIn}
-use Rattle.reader.specs.Walking.{Taken, isPass, oneMore, counted, faulted, credited, judged, linePower, takeLine, takeLines, noLines}
+use Rattle.reader.specs.Walking.{Taken, isPass, oneMore, counted, faulted, credited, judged, linePower, takeLine, takeLines}
 use Rattle.reader.specs.declared.tally.LinePower.{LinePower}
 use Rattle.reader.specs.declared.tally.LinePower.the-variants.{Gives, NoLabels, NoPower}
-use Rattle.reader.specs.declared.tally.Tally.{Tally}
 use Rattle.notification.proofs.Places.{places-filled}
-use Rattle.notification.proofs.Steps.{powers-length}
 
 -- ---- how many lines
 

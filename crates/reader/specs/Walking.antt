@@ -1,10 +1,10 @@
 -- How the reader goes through a body: a power by its bytes, a line by its step, and what is kept from line to line.
 use mathlib.Core.Path.{_≡_}
 use mathlib.Core.Bool.{Bool, true, false, cond, not, _&&_, _||_}
-use mathlib.Core.List.{List, [], _∷_, _++_}
-use Prim.Native.Nat.{ℕ, zero, suc, _+_, _-_, _*_, _/_, _%_, _<_, _≤_, min}
+use mathlib.Core.List.{List, [], _∷_}
+use Prim.Native.Nat.{ℕ, _+_, _-_, _*_, _/_, _%_, _<_, _≤_, min}
 use lib.Dec.{leb, ltb, eqb}
-use lib.ListN.{length, getD, take, drop, set, replicate}
+use lib.ListN.{length, getD, take, drop, set}
 use Rattle.lists.specs.Searches.{every, same}
 use Rattle.calendar.specs.Steps.{plainSteps}
 use Rattle.calendar.specs.Labels.{turnOf}
@@ -67,16 +67,30 @@ noMark = 281474976710656
 abbrev pub timeMark : ℕ → ℕ
 timeMark j = six (48 + j / 20) (48 + j / 2 % 10) 58 (48 + j % 2 * 3) 48 59
 
--- the marks of a day's times, 00:00 to 24:00
-unfoldable pub timeMarks : List ℕ
-timeMarks =
-    65078153588784 ∷ 65078203920432 ∷ 65078153589040 ∷ 65078203920688 ∷ 65078153589296 ∷ 65078203920944 ∷ 65078153589552
-    ∷ 65078203921200 ∷ 65078153589808 ∷ 65078203921456 ∷ 65078153590064 ∷ 65078203921712 ∷ 65078153590320 ∷ 65078203921968
-    ∷ 65078153590576 ∷ 65078203922224 ∷ 65078153590832 ∷ 65078203922480 ∷ 65078153591088 ∷ 65078203922736 ∷ 65078153588785
-    ∷ 65078203920433 ∷ 65078153589041 ∷ 65078203920689 ∷ 65078153589297 ∷ 65078203920945 ∷ 65078153589553 ∷ 65078203921201
-    ∷ 65078153589809 ∷ 65078203921457 ∷ 65078153590065 ∷ 65078203921713 ∷ 65078153590321 ∷ 65078203921969 ∷ 65078153590577
-    ∷ 65078203922225 ∷ 65078153590833 ∷ 65078203922481 ∷ 65078153591089 ∷ 65078203922737 ∷ 65078153588786 ∷ 65078203920434
-    ∷ 65078153589042 ∷ 65078203920690 ∷ 65078153589298 ∷ 65078203920946 ∷ 65078153589554 ∷ 65078203921202 ∷ 65078153589810 ∷ []
+-- `hh:mm;` of each half hour from 00:00 to 24:00, one after another
+unfoldable pub timesText : List ℕ
+timesText =
+    48 ∷ 48 ∷ 58 ∷ 48 ∷ 48 ∷ 59 ∷ 48 ∷ 48 ∷ 58 ∷ 51 ∷ 48 ∷ 59 ∷ 48 ∷ 49 ∷ 58 ∷ 48 ∷ 48 ∷ 59
+    ∷ 48 ∷ 49 ∷ 58 ∷ 51 ∷ 48 ∷ 59 ∷ 48 ∷ 50 ∷ 58 ∷ 48 ∷ 48 ∷ 59 ∷ 48 ∷ 50 ∷ 58 ∷ 51 ∷ 48 ∷ 59
+    ∷ 48 ∷ 51 ∷ 58 ∷ 48 ∷ 48 ∷ 59 ∷ 48 ∷ 51 ∷ 58 ∷ 51 ∷ 48 ∷ 59 ∷ 48 ∷ 52 ∷ 58 ∷ 48 ∷ 48 ∷ 59
+    ∷ 48 ∷ 52 ∷ 58 ∷ 51 ∷ 48 ∷ 59 ∷ 48 ∷ 53 ∷ 58 ∷ 48 ∷ 48 ∷ 59 ∷ 48 ∷ 53 ∷ 58 ∷ 51 ∷ 48 ∷ 59
+    ∷ 48 ∷ 54 ∷ 58 ∷ 48 ∷ 48 ∷ 59 ∷ 48 ∷ 54 ∷ 58 ∷ 51 ∷ 48 ∷ 59 ∷ 48 ∷ 55 ∷ 58 ∷ 48 ∷ 48 ∷ 59
+    ∷ 48 ∷ 55 ∷ 58 ∷ 51 ∷ 48 ∷ 59 ∷ 48 ∷ 56 ∷ 58 ∷ 48 ∷ 48 ∷ 59 ∷ 48 ∷ 56 ∷ 58 ∷ 51 ∷ 48 ∷ 59
+    ∷ 48 ∷ 57 ∷ 58 ∷ 48 ∷ 48 ∷ 59 ∷ 48 ∷ 57 ∷ 58 ∷ 51 ∷ 48 ∷ 59 ∷ 49 ∷ 48 ∷ 58 ∷ 48 ∷ 48 ∷ 59
+    ∷ 49 ∷ 48 ∷ 58 ∷ 51 ∷ 48 ∷ 59 ∷ 49 ∷ 49 ∷ 58 ∷ 48 ∷ 48 ∷ 59 ∷ 49 ∷ 49 ∷ 58 ∷ 51 ∷ 48 ∷ 59
+    ∷ 49 ∷ 50 ∷ 58 ∷ 48 ∷ 48 ∷ 59 ∷ 49 ∷ 50 ∷ 58 ∷ 51 ∷ 48 ∷ 59 ∷ 49 ∷ 51 ∷ 58 ∷ 48 ∷ 48 ∷ 59
+    ∷ 49 ∷ 51 ∷ 58 ∷ 51 ∷ 48 ∷ 59 ∷ 49 ∷ 52 ∷ 58 ∷ 48 ∷ 48 ∷ 59 ∷ 49 ∷ 52 ∷ 58 ∷ 51 ∷ 48 ∷ 59
+    ∷ 49 ∷ 53 ∷ 58 ∷ 48 ∷ 48 ∷ 59 ∷ 49 ∷ 53 ∷ 58 ∷ 51 ∷ 48 ∷ 59 ∷ 49 ∷ 54 ∷ 58 ∷ 48 ∷ 48 ∷ 59
+    ∷ 49 ∷ 54 ∷ 58 ∷ 51 ∷ 48 ∷ 59 ∷ 49 ∷ 55 ∷ 58 ∷ 48 ∷ 48 ∷ 59 ∷ 49 ∷ 55 ∷ 58 ∷ 51 ∷ 48 ∷ 59
+    ∷ 49 ∷ 56 ∷ 58 ∷ 48 ∷ 48 ∷ 59 ∷ 49 ∷ 56 ∷ 58 ∷ 51 ∷ 48 ∷ 59 ∷ 49 ∷ 57 ∷ 58 ∷ 48 ∷ 48 ∷ 59
+    ∷ 49 ∷ 57 ∷ 58 ∷ 51 ∷ 48 ∷ 59 ∷ 50 ∷ 48 ∷ 58 ∷ 48 ∷ 48 ∷ 59 ∷ 50 ∷ 48 ∷ 58 ∷ 51 ∷ 48 ∷ 59
+    ∷ 50 ∷ 49 ∷ 58 ∷ 48 ∷ 48 ∷ 59 ∷ 50 ∷ 49 ∷ 58 ∷ 51 ∷ 48 ∷ 59 ∷ 50 ∷ 50 ∷ 58 ∷ 48 ∷ 48 ∷ 59
+    ∷ 50 ∷ 50 ∷ 58 ∷ 51 ∷ 48 ∷ 59 ∷ 50 ∷ 51 ∷ 58 ∷ 48 ∷ 48 ∷ 59 ∷ 50 ∷ 51 ∷ 58 ∷ 51 ∷ 48 ∷ 59
+    ∷ 50 ∷ 52 ∷ 58 ∷ 48 ∷ 48 ∷ 59 ∷ []
+
+-- six bytes at a place as one number
+abbrev pub sixAt : List ℕ → ℕ → ℕ
+sixAt s i = six (getD s i 0) (getD s (i + 1) 0) (getD s (i + 2) 0) (getD s (i + 3) 0) (getD s (i + 4) 0) (getD s (i + 5) 0)
 
 -- the half hours since midnight that a boundary between steps is labelled with
 unfoldable pub halfHours : ℕ → ℕ → ℕ
@@ -95,8 +109,8 @@ pub record Plain (steps k r : ℕ) : Type 0 where
 -- at a place stand two marks, a power and `;`, and LF: n bytes
 pub record LineAt (s : List ℕ) (at from until v n : ℕ) : Type 0 where
   pub bytes : (i : ℕ) → getD s i 0 < 256
-  pub first : six (getD s at 0) (getD s (at + 1) 0) (getD s (at + 2) 0) (getD s (at + 3) 0) (getD s (at + 4) 0) (getD s (at + 5) 0) ≡ from
-  pub second : six (getD s (at + 6) 0) (getD s (at + 7) 0) (getD s (at + 8) 0) (getD s (at + 9) 0) (getD s (at + 10) 0) (getD s (at + 11) 0) ≡ until
+  pub first : sixAt s at ≡ from
+  pub second : sixAt s (at + 6) ≡ until
   pub power : Is v (n - 13) ≡ powerOf (getD s (at + 12) 0) (getD s (at + 12 + 1) 0) (getD s (at + 12 + 2) 0) (getD s (at + 12 + 3) 0) (getD s (at + 12 + 4) 0)
   pub break : getD s (at + n - 1) 0 ≡ 10
   pub more : 13 ≤ n

@@ -5,68 +5,12 @@ ghost use Prim.Native.Nat.{ℕ, _+_, _*_, _<_, _≤_};
 ghost use lib.ListN.{length, getD};
 ghost use Rattle.calendar.specs.Labels.{turnOf};
 ghost use Rattle.notification.specs.Forms.{places};
-ghost use Rattle.reader.specs.Walking.{six, noMark, halfHours, Plain, LineSays};
+ghost use Rattle.reader.specs.Walking.{sixAt, halfHours, Plain, LineSays};
 use crate::power::Power;
 use crate::power::byte_at;
 use crate::power::power_at;
 use crate::power::power_of;
 use calendar::PLAIN_STEPS;
-
-// Six bytes give less than this.
-const NO_MARK: u64 = 281474976710656;
-
-// `hh:mm;` as a number, of each half hour from 00:00 to 24:00.
-pub(crate) const TIME_MARKS: [u64; 49] = [
-    65078153588784,
-    65078203920432,
-    65078153589040,
-    65078203920688,
-    65078153589296,
-    65078203920944,
-    65078153589552,
-    65078203921200,
-    65078153589808,
-    65078203921456,
-    65078153590064,
-    65078203921712,
-    65078153590320,
-    65078203921968,
-    65078153590576,
-    65078203922224,
-    65078153590832,
-    65078203922480,
-    65078153591088,
-    65078203922736,
-    65078153588785,
-    65078203920433,
-    65078153589041,
-    65078203920689,
-    65078153589297,
-    65078203920945,
-    65078153589553,
-    65078203921201,
-    65078153589809,
-    65078203921457,
-    65078153590065,
-    65078203921713,
-    65078153590321,
-    65078203921969,
-    65078153590577,
-    65078203922225,
-    65078153590833,
-    65078203922481,
-    65078153591089,
-    65078203922737,
-    65078153588786,
-    65078203920434,
-    65078153589042,
-    65078203920690,
-    65078153589298,
-    65078203920946,
-    65078153589554,
-    65078203921202,
-    65078153589810,
-];
 
 // A byte as a wider number, with its bound for the caller.
 fn wide(b: u8) -> u64
@@ -126,26 +70,26 @@ fn four(s: &[u8], a: usize) -> u64
     wide(s[a]) + wide(s[a + 1]) * 256 + wide(s[a + 2]) * 65536 + wide(s[a + 3]) * 16777216
 }
 
-// Whether two marks stand at a place.
-fn marked(s: &[u8], a: usize, from: u64, until: u64) -> bool
-    requires { ⌜ (a + 12 ≤ length (now s)) × (from < noMark) × (until ≤ noMark) ⌝ }
-    ensures { λ r. ⌜ (r ≡ true → (six (getD (now (s .entry)) a 0) (getD (now (s .entry)) (a + 1) 0) (getD (now (s .entry)) (a + 2) 0) (getD (now (s .entry)) (a + 3) 0) (getD (now (s .entry)) (a + 4) 0) (getD (now (s .entry)) (a + 5) 0) ≡ from) × (six (getD (now (s .entry)) (a + 6) 0) (getD (now (s .entry)) (a + 7) 0) (getD (now (s .entry)) (a + 8) 0) (getD (now (s .entry)) (a + 9) 0) (getD (now (s .entry)) (a + 10) 0) (getD (now (s .entry)) (a + 11) 0) ≡ until)) ⌝ }
-    ensures { λ r. ⌜ ((i : ℕ) → getD (now (s .entry)) i 0 < 256) ⌝ }
+// Whether the same twelve bytes stand at a place of each text.
+fn twelve(s: &[u8], a: usize, t: &[u8], i: usize) -> bool
+    requires { ⌜ (a + 12 ≤ length (now s)) × (i + 12 ≤ length (now t)) ⌝ }
+    ensures { λ r. ⌜ (r ≡ true → (sixAt (now (s .entry)) a ≡ sixAt (now (t .entry)) i) × (sixAt (now (s .entry)) (a + 6) ≡ sixAt (now (t .entry)) (i + 6))) ⌝ }
+    ensures { λ r. ⌜ ((j : ℕ) → getD (now (s .entry)) j 0 < 256) ⌝ }
 {
-    let low = four(s, a) + four(s, a + 4) * 4294967296;
-    let high = four(s, a + 8);
-    (low == from + until % 65536 * NO_MARK) & (high == until / 65536)
+    let here = four(s, a) + four(s, a + 4) * 4294967296;
+    let there = four(t, i) + four(t, i + 4) * 4294967296;
+    (here == there) & (four(s, a + 8) == four(t, i + 8))
 }
 
-// The line at a place near the end: two marks, a power and `;`, and LF, with how many bytes these are.
-fn last_line(s: &[u8], a: usize, from: u64, until: u64) -> Power
-    requires { ⌜ (a ≤ length (now s)) × (from < noMark) × (until ≤ noMark) ⌝ }
-    ensures { λ r. ⌜ LineSays (now (s .entry)) a from until r ⌝ }
+// The line at a place near the end: two times as in a list of them, a power and `;`, and LF, with how many bytes these are.
+fn last_line(s: &[u8], a: usize, t: &[u8], i: usize) -> Power
+    requires { ⌜ (a ≤ length (now s)) × (i + 12 ≤ length (now t)) ⌝ }
+    ensures { λ r. ⌜ LineSays (now (s .entry)) a (sixAt (now (t .entry)) i) (sixAt (now (t .entry)) (i + 6)) r ⌝ }
 {
     if s.len() - a < 15 {
         return Power::Not;
     }
-    if !marked(s, a, from, until) {
+    if !twelve(s, a, t, i) {
         return Power::Not;
     }
     let power = power_at(s, a + 12);
@@ -162,14 +106,14 @@ fn last_line(s: &[u8], a: usize, from: u64, until: u64) -> Power
 }
 
 // The line at a place, where the longest there is has room.
-pub(crate) fn good_line(s: &[u8], a: usize, from: u64, until: u64) -> Power
-    requires { ⌜ (a ≤ length (now s)) × (from < noMark) × (until ≤ noMark) ⌝ }
-    ensures { λ r. ⌜ LineSays (now (s .entry)) a from until r ⌝ }
+pub(crate) fn good_line(s: &[u8], a: usize, t: &[u8], i: usize) -> Power
+    requires { ⌜ (a ≤ length (now s)) × (i + 12 ≤ length (now t)) ⌝ }
+    ensures { λ r. ⌜ LineSays (now (s .entry)) a (sixAt (now (t .entry)) i) (sixAt (now (t .entry)) (i + 6)) r ⌝ }
 {
-    if s.len() - a < 18 {
-        return last_line(s, a, from, until);
+    if s.len() < a + 18 {
+        return last_line(s, a, t, i);
     }
-    if !marked(s, a, from, until) {
+    if !twelve(s, a, t, i) {
         return Power::Not;
     }
     let p = a + 12;

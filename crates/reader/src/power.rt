@@ -24,7 +24,7 @@ fn digit_value(b: u8) -> u32
     if b < b'0' {
         return b as u32 + 4294967248;
     }
-    (b - b'0') as u32
+    b as u32 - b'0' as u32
 }
 
 // The power and `;` that five bytes begin with: one digit, or up to four that begin with no 0.

@@ -2,13 +2,14 @@
 ghost use mathlib.Core.Bool.{true};
 ghost use mathlib.Core.Path.{_≡_};
 ghost use Prim.Native.Nat.{_+_, _-_, _<_, _≤_};
-ghost use lib.ListN.{length, take, drop};
+ghost use lib.ListN.{length};
 ghost use Rattle.lists.specs.Searches.{same};
 ghost use Rattle.notification.specs.Reading.{isBody, refused, readFile};
 ghost use Rattle.reader.specs.Parts.{headed, otherHeader};
-ghost use Rattle.reader.specs.Walking.{noLines, judgement};
+ghost use Rattle.reader.specs.Walking.{judgement};
 use crate::keys::is_header;
 use crate::keys::name_key;
+use crate::power::byte_at;
 use crate::tally::Tally;
 use crate::tally::line_end;
 use crate::tally::take_lines;
@@ -85,7 +86,8 @@ fn is_headed(s: &[u8], body: &[u8]) -> bool
         & alike(&body[0..16], &s[0..16])
         & alike(&body[17..33], &s[17..33])
         & alike(&body[34..42], &s[34..42])
-        & alike(&body[43..n], &s[43..n])
+        & alike(&body[43..48], &s[43..48])
+        & ((n == 48) | (body[48] == byte_at(s, 48)))
 }
 
 // A body whose first line isn't the name's header: 3 or 4.

@@ -2,11 +2,10 @@
 ghost use mathlib.Core.Path.{_≡_};
 ghost use mathlib.Core.List.{[], _∷_, _++_};
 ghost use Prim.Native.Nat.{_+_, _-_, _<_, _≤_, min};
-ghost use lib.ListN.{length, getD, drop, take};
+ghost use lib.ListN.{length, drop, take};
 ghost use Rattle.notification.specs.Forms.{places};
 ghost use Rattle.reader.specs.Walking.{startsWith, linePower, isPass, counted, faulted, credited, LineEnd, takeLine, takeLines, RunOn};
 ghost use Rattle.notification.specs.Reading.{linesIn};
-use crate::marks::TIME_MARKS;
 use crate::marks::good_line;
 use crate::marks::half_hours;
 use crate::marks::run_end;
@@ -194,22 +193,20 @@ fn good_run(t: Tally, steps: u32, body: &[u8], from: usize, powers: &mut [u16; 5
         return Run { tally: t, at: from };
     }
     let any = t.any;
-    let marks = TIME_MARKS;
-    let mut j = half_hours(steps, k) as usize;
-    let mut mark = marks[j];
+    let times =
+        b"00:00;00:30;01:00;01:30;02:00;02:30;03:00;03:30;04:00;04:30;05:00;05:30;06:00;06:30;07:00;07:30;08:00;08:30;09:00;09:30;10:00;10:30;11:00;11:30;12:00;12:30;13:00;13:30;14:00;14:30;15:00;15:30;16:00;16:30;17:00;17:30;18:00;18:30;19:00;19:30;20:00;20:30;21:00;21:30;22:00;22:30;23:00;23:30;24:00;";
+    let mut i = half_hours(steps, k) as usize * 6;
     let mut sum: u32 = 0;
     let mut at = from;
     while k < stop {
-        let next = marks[j + 1];
-        let line = good_line(body, at, mark, next);
+        let line = good_line(body, at, times, i);
         match line {
             Power::Is(power, n) => {
                 powers[k as usize] = power;
                 sum += power as u32;
                 at += n;
                 k += 1;
-                j += 1;
-                mark = next;
+                i += 6;
             }
             Power::Not => {
                 break;

@@ -1,5 +1,6 @@
+-- A line is a header where it is a key and `;`.
 use borrow.Author.Needs.{needs}
-use mathlib.Core.Path.{_≡_, sym, ap, _∙_}
+use mathlib.Core.Path.{_≡_, ap, _∙_}
 use Prim.Native.Nat.{ℕ, _-_}
 use native.Mathlib.Omega.{arith}
 use lib.ListN.{length, take}
@@ -8,41 +9,30 @@ use Rattle.reader.specs.declared.keys.KeyRead.{KeyRead}
 use Rattle.reader.proofs.Frames.{header-few, header-other, header-inside}
 use Rattle.reader.proofs.keys.is_header.Statement.{statement}
 use Rattle.reader.proofs.keys.is_header.Tie as tie
-use Rattle.reader.proofs.keys.is_header.Reads as reads
-use Rattle.reader.proofs.keys.is_header.Lts as lts
-use Rattle.reader.proofs.keys.key_in.Reads as key-in-reads
 
--- src/keys.rt:127:9
 returns : tie.Need-returns
 returns c = header-few (c .before .before .args .line .now) (c .if1 .taken)
 
--- src/keys.rt:130:8
 shared-slice-read-if2 : tie.Need-shared-slice-read-if2
 shared-slice-read-if2 c = search needs
 
--- src/keys.rt:131:9
 returns-2 : tie.Need-returns-2
 returns-2 c =
     let line = c .before .before .before .before .args .line .now in
     header-other line (length line - 1) (omega arith) (c .if2 .taken)
 
--- src/keys.rt:133:23
 sub-key-in : tie.Need-sub-key-in
 sub-key-in c = search needs
 
--- src/keys.rt:133:23
 part-key-in-start : tie.Need-part-key-in-start
 part-key-in-start c = search needs
 
--- src/keys.rt:133:23
 part-key-in-end : tie.Need-part-key-in-end
 part-key-in-end c = search needs
 
--- src/keys.rt:133:9
 key-in-requires : tie.Need-key-in-requires
 key-in-requires c κs = search needs
 
--- src/keys.rt:122:1
 returns-3 : tie.Need-returns-3
 returns-3 c =
     let line = c .before .before .before .before .before .before .args .line .now in

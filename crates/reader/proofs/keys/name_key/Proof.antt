@@ -1,61 +1,46 @@
+-- A name is a key between its marks.
 use borrow.Author.Needs.{needs}
-use mathlib.Core.Path.{sym, _∙_}
+use mathlib.Core.Path.{_∙_}
 use Prim.Native.Nat.{_-_}
 use native.Mathlib.Omega.{arith}
 use lib.ListN.{length}
 use Rattle.reader.proofs.Frames.{name-few, name-unmarked, name-marked}
 use Rattle.reader.proofs.keys.name_key.Statement.{statement}
 use Rattle.reader.proofs.keys.name_key.Tie as tie
-use Rattle.reader.proofs.keys.name_key.Reads as reads
-use Rattle.reader.proofs.keys.name_key.Lts as lts
-use Rattle.reader.proofs.keys.is_marked.Reads as is-marked-reads
-use Rattle.reader.proofs.keys.key_in.Reads as key-in-reads
-use Rattle.reader.proofs.keys.no_key.Reads as no-key-reads
 
--- src/keys.rt:112:9
 no-key-requires : tie.Need-no-key-requires
 no-key-requires c κs = search needs
 
--- src/keys.rt:112:9
 returns : tie.Need-returns
 returns c = c .no-key .ensures ∙ name-few (c .before .before .before .args .name .now) (c .before .if1 .taken)
 
--- src/keys.rt:114:15
 sub-end : tie.Need-sub-end
 sub-end c = search needs
 
--- src/keys.rt:115:9
 is-marked-requires : tie.Need-is-marked-requires
 is-marked-requires c κs = search needs
 
--- src/keys.rt:116:9
 no-key-requires-2 : tie.Need-no-key-requires-2
 no-key-requires-2 c κs = search needs
 
--- src/keys.rt:116:9
 returns-2 : tie.Need-returns-2
 returns-2 c =
     let name = c .before .before .before .before .before .args .name .now in
     let h = c .before .before .before .if1 .left in
     c .no-key2 .ensures ∙ name-unmarked name (length name - 4) h (omega arith) _ (c .before .before .is-marked .ensures) (c .before .if2 .taken)
 
--- src/keys.rt:118:12
 sub-key-in : tie.Need-sub-key-in
 sub-key-in c = search needs
 
--- src/keys.rt:118:12
 part-key-in-start : tie.Need-part-key-in-start
 part-key-in-start c = search needs
 
--- src/keys.rt:118:12
 part-key-in-end : tie.Need-part-key-in-end
 part-key-in-end c = search needs
 
--- src/keys.rt:118:5
 key-in-requires : tie.Need-key-in-requires
 key-in-requires c κs = search needs
 
--- src/keys.rt:107:1
 returns-3 : tie.Need-returns-3
 returns-3 c =
     let name = c .before .before .before .before .before .before .args .name .now in

@@ -1,36 +1,27 @@
+-- The bytes one by one.
 use borrow.Author.Needs.{needs}
 use Rattle.reader.proofs.Sixes.{six-all}
 use Rattle.reader.proofs.keys.six.Statement.{statement}
 use Rattle.reader.proofs.keys.six.Tie as tie
-use Rattle.reader.proofs.keys.six.Reads as reads
-use Rattle.reader.proofs.keys.six.Lts as lts
-use Rattle.reader.proofs.power.byte_at.Reads as byte-at-reads
 
--- src/keys.rt:54:9
 byte-at-requires : tie.Need-byte-at-requires
 byte-at-requires c κs = search needs
 
--- src/keys.rt:55:6
 shared-slice-read-t4 : tie.Need-shared-slice-read-t4
 shared-slice-read-t4 c = search needs
 
--- src/keys.rt:55:12
 shared-slice-read-t6 : tie.Need-shared-slice-read-t6
 shared-slice-read-t6 c = search needs
 
--- src/keys.rt:55:18
 shared-slice-read-t8 : tie.Need-shared-slice-read-t8
 shared-slice-read-t8 c = search needs
 
--- src/keys.rt:55:24
 shared-slice-read-t10 : tie.Need-shared-slice-read-t10
 shared-slice-read-t10 c = search needs
 
--- src/keys.rt:55:30
 shared-slice-read-t12 : tie.Need-shared-slice-read-t12
 shared-slice-read-t12 c = search needs
 
--- src/keys.rt:50:1
 returns : tie.Need-returns
 returns c = rw (c .before .before .before .before .before .byte-at .ensures) (six-all (c .before .before .before .before .before .before .before .args .s .now) (c .before .before .before .before .before .before .before .pre))
 

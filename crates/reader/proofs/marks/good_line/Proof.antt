@@ -1,15 +1,17 @@
--- The marks, the power and LF, one after another.
+-- The times, the power and LF, one after another.
 use borrow.Author.Needs.{needs}
 use mathlib.Core.Path.{refl, sym, _∙_}
+use Prim.Native.Nat.{_+_}
 use native.Mathlib.Omega.{arith}
 use borrow.Author.Tests.{not-false}
+use Rattle.reader.specs.Walking.{sixAt}
 use Rattle.reader.proofs.Figures.{power-few}
 use Rattle.reader.proofs.Marking.{line-at}
 use Rattle.reader.proofs.marks.good_line.Statement.{statement}
 use Rattle.reader.proofs.marks.good_line.Tie as tie
 
-sub-if1 : tie.Need-sub-if1
-sub-if1 c = search needs
+add-if1 : tie.Need-add-if1
+add-if1 c = search needs
 
 last-line-requires : tie.Need-last-line-requires
 last-line-requires c κs = search needs
@@ -17,8 +19,8 @@ last-line-requires c κs = search needs
 returns : tie.Need-returns
 returns c = search needs
 
-marked-requires : tie.Need-marked-requires
-marked-requires c κs = search needs
+twelve-requires : tie.Need-twelve-requires
+twelve-requires c κs = search needs
 
 returns-2 : tie.Need-returns-2
 returns-2 c = search needs
@@ -73,8 +75,8 @@ enum-told c = search needs
 
 returns-3 : tie.Need-returns-3
 returns-3 c =
-    line-at (c .before .before .before .before .before .before .before .before .before .before .before .before .before .before .before .args .s .now) (c .before .before .before .before .before .before .before .before .before .before .before .before .before .before .before .args .a) (c .before .before .before .before .before .before .before .before .before .before .before .before .before .before .before .args .from) (c .before .before .before .before .before .before .before .before .before .before .before .before .before .before .before .args .until) _ _ _ (c .before .before .before .before .before .before .before .before .before .before .before .before .marked .ensures .1)
-    (c .before .before .before .before .before .before .before .before .before .before .before .before .marked .ensures .0 (not-false (c .before .before .before .before .before .before .before .before .before .before .before .before .marked .result) (c .before .before .before .before .before .before .before .before .before .before .before .if2 .left)))
+    line-at (c .before .before .before .before .before .before .before .before .before .before .before .before .before .before .before .before .args .s .now) (c .before .before .before .before .before .before .before .before .before .before .before .before .before .before .before .before .args .a) (sixAt (c .before .before .before .before .before .before .before .before .before .before .before .before .before .before .before .before .args .t .now) (c .before .before .before .before .before .before .before .before .before .before .before .before .before .before .before .before .args .i)) (sixAt (c .before .before .before .before .before .before .before .before .before .before .before .before .before .before .before .before .args .t .now) (c .before .before .before .before .before .before .before .before .before .before .before .before .before .before .before .before .args .i + 6)) _ _ _ (c .before .before .before .before .before .before .before .before .before .before .before .before .twelve .ensures .1)
+    (c .before .before .before .before .before .before .before .before .before .before .before .before .twelve .ensures .0 (not-false (c .before .before .before .before .before .before .before .before .before .before .before .before .twelve .result) (c .before .before .before .before .before .before .before .before .before .before .before .if2 .left)))
     (sym (c .before .before .before .power .given .1) ∙ c .before .before .before .before .before .power-of .ensures) refl (c .if3 .taken)
 
 returns-4 : tie.Need-returns-4
@@ -87,10 +89,10 @@ pub good-line-spec : {M : Type 1} → statement M
 good-line-spec =
     tie.close
     (tie.spec
-    sub-if1
+    add-if1
     last-line-requires
     returns
-    marked-requires
+    twelve-requires
     returns-2
     add-p
     shared-slice-read-power-of

@@ -1,29 +1,22 @@
+-- Before the turn, and from it on.
 use borrow.Author.Needs.{needs}
 use native.Mathlib.Omega.{arith}
 use Rattle.reader.proofs.Marking.{half-before, half-after}
 use Rattle.reader.proofs.marks.half_hours.Statement.{statement}
 use Rattle.reader.proofs.marks.half_hours.Tie as tie
-use Rattle.reader.proofs.marks.half_hours.Reads as reads
-use Rattle.reader.proofs.marks.half_hours.Lts as lts
-use Rattle.reader.proofs.marks.turn.Reads as turn-reads
 
--- src/marks.rt:39:13
 turn-requires : tie.Need-turn-requires
 turn-requires c κs = search needs
 
--- src/marks.rt:42:9
 add-result : tie.Need-add-result
 add-result c = search needs
 
--- src/marks.rt:42:9
 sub-result : tie.Need-sub-result
 sub-result c = search needs
 
--- src/marks.rt:35:1
 returns : tie.Need-returns
 returns c = (half-before (c .before .before .args .steps) (c .before .before .args .at) _ (c .before .turn .ensures .0) (c .if1 .taken), omega arith)
 
--- src/marks.rt:35:1
 returns-2 : tie.Need-returns-2
 returns-2 c = (half-after (c .before .before .args .steps) (c .before .before .args .at) _ (c .before .turn .ensures .0) (c .if1 .left), omega arith)
 

@@ -1,15 +1,12 @@
+-- A short day, or another.
 use native.Mathlib.Omega.{arith}
 use Rattle.reader.proofs.Marking.{turn-short, turn-long}
 use Rattle.reader.proofs.marks.turn.Statement.{statement}
 use Rattle.reader.proofs.marks.turn.Tie as tie
-use Rattle.reader.proofs.marks.turn.Reads as reads
-use Rattle.reader.proofs.marks.turn.Lts as lts
 
--- src/marks.rt:28:1
 returns : tie.Need-returns
 returns c = (turn-short (c .before .args .steps) (c .if1 .taken), omega arith, omega arith)
 
--- src/marks.rt:28:1
 returns-2 : tie.Need-returns-2
 returns-2 c = (turn-long (c .before .args .steps) (c .if1 .left), omega arith, omega arith)
 

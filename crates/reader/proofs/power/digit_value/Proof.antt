@@ -13,8 +13,11 @@ returns c = value-below _ (c .if1 .taken)
 cast-result : tie.Need-cast-result
 cast-result c = search needs
 
+sub-result : tie.Need-sub-result
+sub-result c = search needs
+
 returns-2 : tie.Need-returns-2
 returns-2 c = value-from _ (c .if1 .left)
 
 pub digit-value-spec : {M : Type 1} → statement M
-digit-value-spec = tie.close (tie.spec add-result returns cast-result returns-2)
+digit-value-spec = tie.close (tie.spec add-result returns cast-result sub-result returns-2)

@@ -1,10 +1,9 @@
 -- As long as the loop runs, it is known whether the bytes passed are the same.
 use borrow.Author.Needs.{needs}
-use mathlib.Core.Path.{_≡_, refl, _∙_}
+use mathlib.Core.Path.{_≡_, refl}
 use Prim.Native.Nat.{_-_, _≤_}
 use native.Mathlib.Omega.{arith}
 use lib.ListN.{length, take}
-use lib.Seq.{take-all}
 use Rattle.lists.specs.Searches.{same}
 use Rattle.reader.proofs.Headers.{alike-more, alike-all}
 use Rattle.reader.proofs.reading.alike.Statement.{statement}

@@ -1,160 +1,127 @@
+-- Each part stands in its place, with its `;`.
 use borrow.Author.Needs.{needs}
 use Rattle.reader.proofs.Headers.{headed-short, headed-rest}
 use Rattle.reader.proofs.reading.is_headed.Statement.{statement}
 use Rattle.reader.proofs.reading.is_headed.Tie as tie
-use Rattle.reader.proofs.reading.is_headed.Reads as reads
-use Rattle.reader.proofs.reading.is_headed.Lts as lts
-use Rattle.reader.proofs.reading.alike.Reads as alike-reads
 
--- src/reader.rt:77:21
 add-if1 : tie.Need-add-if1
 add-if1 c = search needs
 
--- src/reader.rt:78:9
 returns : tie.Need-returns
 returns c = headed-short (c .before .before .before .args .s .now) (c .before .before .before .args .body .now) (c .if1 .taken)
 
--- src/reader.rt:80:6
 shared-slice-read-result : tie.Need-shared-slice-read-result
 shared-slice-read-result c = search needs
 
--- src/reader.rt:81:12
 shared-slice-read-result-2 : tie.Need-shared-slice-read-result-2
 shared-slice-read-result-2 c = search needs
 
--- src/reader.rt:82:12
 shared-slice-read-result-3 : tie.Need-shared-slice-read-result-3
 shared-slice-read-result-3 c = search needs
 
--- src/reader.rt:83:12
 shared-slice-read-result-4 : tie.Need-shared-slice-read-result-4
 shared-slice-read-result-4 c = search needs
 
--- src/reader.rt:84:17
 add-result : tie.Need-add-result
 add-result c = search needs
 
--- src/reader.rt:84:12
 shared-slice-read-result-5 : tie.Need-shared-slice-read-result-5
 shared-slice-read-result-5 c = search needs
 
--- src/reader.rt:85:17
 sub-alike : tie.Need-sub-alike
 sub-alike c = search needs
 
--- src/reader.rt:85:17
 part-alike-start : tie.Need-part-alike-start
 part-alike-start c = search needs
 
--- src/reader.rt:85:17
 part-alike-end : tie.Need-part-alike-end
 part-alike-end c = search needs
 
--- src/reader.rt:85:31
 sub-alike-2 : tie.Need-sub-alike-2
 sub-alike-2 c = search needs
 
--- src/reader.rt:85:31
 part-alike-start-2 : tie.Need-part-alike-start-2
 part-alike-start-2 c = search needs
 
--- src/reader.rt:85:31
 part-alike-end-2 : tie.Need-part-alike-end-2
 part-alike-end-2 c = search needs
 
--- src/reader.rt:85:11
 alike-requires : tie.Need-alike-requires
 alike-requires c κs = search needs
 
--- src/reader.rt:86:17
 sub-alike-3 : tie.Need-sub-alike-3
 sub-alike-3 c = search needs
 
--- src/reader.rt:86:17
 part-alike-start-3 : tie.Need-part-alike-start-3
 part-alike-start-3 c = search needs
 
--- src/reader.rt:86:17
 part-alike-end-3 : tie.Need-part-alike-end-3
 part-alike-end-3 c = search needs
 
--- src/reader.rt:86:32
 sub-alike-4 : tie.Need-sub-alike-4
 sub-alike-4 c = search needs
 
--- src/reader.rt:86:32
 part-alike-start-4 : tie.Need-part-alike-start-4
 part-alike-start-4 c = search needs
 
--- src/reader.rt:86:32
 part-alike-end-4 : tie.Need-part-alike-end-4
 part-alike-end-4 c = search needs
 
--- src/reader.rt:86:11
 alike-requires-2 : tie.Need-alike-requires-2
 alike-requires-2 c κs = search needs
 
--- src/reader.rt:87:17
 sub-alike-5 : tie.Need-sub-alike-5
 sub-alike-5 c = search needs
 
--- src/reader.rt:87:17
 part-alike-start-5 : tie.Need-part-alike-start-5
 part-alike-start-5 c = search needs
 
--- src/reader.rt:87:17
 part-alike-end-5 : tie.Need-part-alike-end-5
 part-alike-end-5 c = search needs
 
--- src/reader.rt:87:32
 sub-alike-6 : tie.Need-sub-alike-6
 sub-alike-6 c = search needs
 
--- src/reader.rt:87:32
 part-alike-start-6 : tie.Need-part-alike-start-6
 part-alike-start-6 c = search needs
 
--- src/reader.rt:87:32
 part-alike-end-6 : tie.Need-part-alike-end-6
 part-alike-end-6 c = search needs
 
--- src/reader.rt:87:11
 alike-requires-3 : tie.Need-alike-requires-3
 alike-requires-3 c κs = search needs
 
--- src/reader.rt:88:17
 sub-alike-7 : tie.Need-sub-alike-7
 sub-alike-7 c = search needs
 
--- src/reader.rt:88:17
 part-alike-start-7 : tie.Need-part-alike-start-7
 part-alike-start-7 c = search needs
 
--- src/reader.rt:88:17
 part-alike-end-7 : tie.Need-part-alike-end-7
 part-alike-end-7 c = search needs
 
--- src/reader.rt:88:31
 sub-alike-8 : tie.Need-sub-alike-8
 sub-alike-8 c = search needs
 
--- src/reader.rt:88:31
 part-alike-start-8 : tie.Need-part-alike-start-8
 part-alike-start-8 c = search needs
 
--- src/reader.rt:88:31
 part-alike-end-8 : tie.Need-part-alike-end-8
 part-alike-end-8 c = search needs
 
--- src/reader.rt:88:11
 alike-requires-4 : tie.Need-alike-requires-4
 alike-requires-4 c κs = search needs
 
--- src/reader.rt:72:1
+shared-slice-read-result-6 : tie.Need-shared-slice-read-result-6
+shared-slice-read-result-6 c = search needs
+
+byte-at-requires : tie.Need-byte-at-requires
+byte-at-requires c κs = search needs
+
 returns-2 : tie.Need-returns-2
 returns-2 c =
-    headed-rest (c .before .before .before .before .before .before .before .before .before .before .before .before .before .before .before .before .before .before .before .before .args .s .now) (c .before .before .before .before .before .before .before .before .before .before .before .before .before .before .before .before .before .before .before .before .args .body .now) _ _ _ _ (c .before .before .before .before .before .before .before .before .before .before .before .before .before .before .before .before .before .if1 .left)
-    (c .before .before .before .before .before .before .before .before .before .alike .ensures) (c .before .before .before .before .before .before .alike2 .ensures) (c .before .before .before .alike3 .ensures) (c .alike4 .ensures)
+    headed-rest (c .before .before .before .before .before .before .before .before .before .before .before .before .before .before .before .before .before .before .before .before .before .before .args .s .now) (c .before .before .before .before .before .before .before .before .before .before .before .before .before .before .before .before .before .before .before .before .before .before .args .body .now) _ _ _ _ _ (c .before .before .before .before .before .before .before .before .before .before .before .before .before .before .before .before .before .before .before .before .before .before .pre .0) (c .before .before .before .before .before .before .before .before .before .before .before .before .before .before .before .before .before .before .before .before .before .before .pre .1) (c .before .before .before .before .before .before .before .before .before .before .before .before .before .before .before .before .before .before .before .if1 .left)
+    (c .before .before .before .before .before .before .before .before .before .before .before .alike .ensures) (c .before .before .before .before .before .before .before .before .alike2 .ensures) (c .before .before .before .before .before .alike3 .ensures) (c .before .before .alike4 .ensures) (c .byte-at .ensures)
 
 pub is-headed-spec : {M : Type 1} → statement M
 is-headed-spec =
@@ -196,4 +163,6 @@ is-headed-spec =
     part-alike-start-8
     part-alike-end-8
     alike-requires-4
+    shared-slice-read-result-6
+    byte-at-requires
     returns-2)

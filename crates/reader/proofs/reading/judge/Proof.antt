@@ -1,45 +1,34 @@
+-- Each way through the code is a row of the table.
 use borrow.Author.Needs.{needs}
 use mathlib.Core.Path.{_∙_}
 use Rattle.reader.proofs.Table.{judged-lines, judged-fault, judged-passed, judged-zeros}
 use Rattle.reader.proofs.reading.judge.Statement.{statement}
 use Rattle.reader.proofs.reading.judge.Tie as tie
-use Rattle.reader.proofs.reading.judge.Reads as reads
-use Rattle.reader.proofs.reading.judge.Lts as lts
-use Rattle.reader.proofs.reading.refuse.Reads as refuse-reads
 
--- src/reader.rt:109:9
 refuse-requires : tie.Need-refuse-requires
 refuse-requires c κs = search needs
 
--- src/reader.rt:109:9
 returns : tie.Need-returns
 returns c = c .refuse .ensures ∙ judged-lines (c .before .before .before .args .key) (c .before .before .before .args .steps) (c .before .before .before .args .t) (c .before .before .before .args .powers) (c .before .if1 .taken)
 
--- src/reader.rt:113:21
 enum-known-verdict : tie.Need-enum-known-verdict
 enum-known-verdict c = search needs
 
--- src/reader.rt:113:27
 refuse-requires-2 : tie.Need-refuse-requires-2
 refuse-requires-2 c κs = search needs
 
--- src/reader.rt:115:16
 enum-told : tie.Need-enum-told
 enum-told c = search needs
 
--- src/reader.rt:126:17
 refuse-requires-3 : tie.Need-refuse-requires-3
 refuse-requires-3 c κs = search needs
 
--- src/reader.rt:105:1
 returns-2 : tie.Need-returns-2
 returns-2 c = c .refuse2 .ensures ∙ judged-fault (c .before .before .before .before .before .before .args .key) (c .before .before .before .before .before .before .args .steps) (c .before .before .before .before .before .before .args .t) (c .before .before .before .before .before .before .args .powers) (c .before .before .before .before .if1 .left) _ (c .before .before .verdict .given .1)
 
--- src/reader.rt:105:1
 returns-3 : tie.Need-returns-3
 returns-3 c = judged-passed (c .before .before .before .before .before .args .key) (c .before .before .before .before .before .args .steps) (c .before .before .before .before .before .args .t) (c .before .before .before .before .before .args .powers) (c .before .before .before .if1 .left) (c .before .enum-told .given .1) (c .if2 .taken)
 
--- src/reader.rt:105:1
 returns-4 : tie.Need-returns-4
 returns-4 c = c .refuse3 .ensures ∙ judged-zeros (c .before .before .before .before .before .before .args .key) (c .before .before .before .before .before .before .args .steps) (c .before .before .before .before .before .before .args .t) (c .before .before .before .before .before .before .args .powers) (c .before .before .before .before .if1 .left) (c .before .before .enum-told .given .1) (c .before .if2 .left)
 

@@ -1,47 +1,34 @@
+-- The first line of a body is what stands before its first LF.
 use borrow.Author.Needs.{needs}
 use mathlib.Core.Path.{_∙_}
 use Rattle.reader.proofs.Table.{other-header, no-header}
 use Rattle.reader.proofs.reading.wrong_header.Statement.{statement}
 use Rattle.reader.proofs.reading.wrong_header.Tie as tie
-use Rattle.reader.proofs.reading.wrong_header.Reads as reads
-use Rattle.reader.proofs.reading.wrong_header.Lts as lts
-use Rattle.reader.proofs.keys.is_header.Reads as is-header-reads
-use Rattle.reader.proofs.reading.refuse.Reads as refuse-reads
-use Rattle.reader.proofs.tally.line_end.Reads as line-end-reads
 
--- src/reader.rt:96:9
 line-end-requires : tie.Need-line-end-requires
 line-end-requires c κs = search needs
 
--- src/reader.rt:97:18
 sub-is-header : tie.Need-sub-is-header
 sub-is-header c = search needs
 
--- src/reader.rt:97:18
 part-is-header-start : tie.Need-part-is-header-start
 part-is-header-start c = search needs
 
--- src/reader.rt:97:18
 part-is-header-end : tie.Need-part-is-header-end
 part-is-header-end c = search needs
 
--- src/reader.rt:97:8
 is-header-requires : tie.Need-is-header-requires
 is-header-requires c κs = search needs
 
--- src/reader.rt:98:9
 refuse-requires : tie.Need-refuse-requires
 refuse-requires c κs = search needs
 
--- src/reader.rt:100:9
 refuse-requires-2 : tie.Need-refuse-requires-2
 refuse-requires-2 c κs = search needs
 
--- src/reader.rt:92:1
 returns : tie.Need-returns
 returns c = c .refuse .ensures ∙ other-header (c .before .before .before .before .before .before .args .body .now) (c .before .before .before .before .before .before .pre) (c .before .before .before .before .line-end .result) (c .before .before .before .before .line-end .ensures) _ (c .before .before .is-header .ensures) (c .before .if1 .taken)
 
--- src/reader.rt:92:1
 returns-2 : tie.Need-returns-2
 returns-2 c = c .refuse2 .ensures ∙ no-header (c .before .before .before .before .before .before .args .body .now) (c .before .before .before .before .before .before .pre) (c .before .before .before .before .line-end .result) (c .before .before .before .before .line-end .ensures) _ (c .before .before .is-header .ensures) (c .before .if1 .left)
 

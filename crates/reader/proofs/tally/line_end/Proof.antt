@@ -1,10 +1,9 @@
 -- As long as the loop runs, no byte passed is LF.
 use borrow.Author.Needs.{needs}
-use mathlib.Core.Bool.{true, not}
+use mathlib.Core.Bool.{true}
 use mathlib.Core.Path.{_≡_}
 use Prim.Native.Nat.{_-_, _≤_}
 use native.Mathlib.Omega.{arith}
-use lib.Dec.{eqb}
 use lib.ListN.{length, take, drop}
 use Rattle.lists.specs.Searches.{every}
 use Rattle.reader.proofs.Ends.{more-in, none-in}

@@ -1,9 +1,9 @@
 -- As long as the loop runs, the bytes passed are those of the text.
 use borrow.Author.Needs.{needs}
-use mathlib.Core.Path.{_≡_, refl, sym, _∙_}
+use mathlib.Core.Path.{_≡_, refl, _∙_}
 use Prim.Native.Nat.{_+_, _-_, _<_, _≤_}
 use native.Mathlib.Omega.{arith}
-use lib.ListN.{length, getD, take, drop, length-drop}
+use lib.ListN.{length, take, drop, length-drop}
 use lib.Seq.{getD-drop}
 use Rattle.reader.proofs.Starts.{take-more, stands-short, stands-other, stands-whole}
 use Rattle.reader.proofs.tally.stands.Statement.{statement}

@@ -5,15 +5,10 @@ use Prim.Native.Nat.{_-_, _≤_}
 use native.Mathlib.Omega.{arith}
 use lib.ListN.{length, drop}
 use Rattle.notification.specs.Reading.{linesIn}
-use Rattle.reader.specs.Walking.{Taken, takeLines}
+use Rattle.reader.specs.Walking.{takeLines}
 use Rattle.reader.proofs.Ends.{take-first, take-none}
 use Rattle.reader.proofs.tally.take_lines.Statement.{statement}
 use Rattle.reader.proofs.tally.take_lines.Tie as tie
-use Rattle.reader.proofs.tally.take_lines.Reads as reads
-use Rattle.reader.proofs.tally.take_lines.Lts as lts
-use Rattle.reader.proofs.tally.good_run.Reads as good-run-reads
-use Rattle.reader.proofs.tally.line_end.Reads as line-end-reads
-use Rattle.reader.proofs.tally.take_line.Reads as take-line-reads
 
 abbrev Inv-loop : tie.InvT-loop
 Inv-loop steps body from powers₀ tally₀ at₀ powers tally at =
