@@ -8,6 +8,7 @@ use crate::steps::steps_of;
 const NEUTRAL_STEPS: u32 = 2;
 
 // A day and the minutes elapsed since its local midnight.
+#[repr(C)]
 pub struct Clock {
     pub day: u32,
     pub minute: u32,

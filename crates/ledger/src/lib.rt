@@ -4,6 +4,7 @@ use refusals::Refusal;
 use refusals::Verdict;
 
 // An actor: its code and its contract, from a first to a last day, both included.
+#[repr(C)]
 pub struct Actor {
     pub code: [u8; 16],
     pub first: u32,

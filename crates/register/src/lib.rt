@@ -13,6 +13,7 @@ use tables::loads::Loads;
 use tables::records::Records;
 
 // The head: the clock, who is enrolled, and what is known of loads and records beside their lent columns.
+#[repr(C)]
 pub struct Head {
     pub clock: Clock,
     pub actors: Actors,

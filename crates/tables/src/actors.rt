@@ -12,6 +12,7 @@ use ledger::Actor;
 pub const ACTORS: u32 = 8;
 
 // How many actors there are, and who; places past the count mean nothing.
+#[repr(C)]
 pub struct Actors {
     pub count: u32,
     pub entries: [Actor; 8],

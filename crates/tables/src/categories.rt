@@ -14,11 +14,13 @@ use crate::actors::least;
 pub const CATEGORIES: u32 = 4;
 
 // A category in six bytes; one without C ends with a 0.
+#[repr(C)]
 pub struct Category {
     pub text: [u8; 6],
 }
 
 // How many categories there are, and which; places past the count mean nothing.
+#[repr(C)]
 pub struct Categories {
     pub count: u32,
     pub entries: [Category; 4],

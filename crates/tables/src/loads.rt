@@ -14,6 +14,7 @@ use crate::actors::least;
 pub const LOADS: u32 = 64;
 
 // How many loads there are, their numbers and their approved powers; places past the count mean nothing.
+#[repr(C)]
 pub struct Loads {
     pub count: u32,
     pub keys: [u32; 64],

@@ -21,6 +21,7 @@ pub const UPDATED: u8 = b'P';
 pub const OBSOLETE: u8 = b'O';
 
 // How many records there are, their statuses and their ids; places past the count mean nothing.
+#[repr(C)]
 pub struct Records {
     pub count: u32,
     pub statuses: [u8; 256],
