@@ -1,2 +1,0 @@
--- What the reader's flat face says.
-pub mod Flat

@@ -1,0 +1,2 @@
+-- Laws of the face.
+pub mod Writes

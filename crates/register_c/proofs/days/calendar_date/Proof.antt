@@ -1,0 +1,17 @@
+use borrow.Author.Needs.{needs}
+use Rattle.register_c.proofs.days.calendar_date.Statement.{statement}
+use Rattle.register_c.proofs.days.calendar_date.Tie as tie
+use Rattle.register_c.proofs.days.calendar_date.Reads as reads
+use Rattle.register_c.proofs.days.calendar_date.Lts as lts
+use Rattle.calendar.proofs.text_of.Reads as text-of-reads
+
+-- src/days.rt:32:9
+text-of-requires : tie.Need-text-of-requires
+text-of-requires c κs = search needs
+
+-- src/days.rt:28:1
+returns : tie.Need-returns
+returns c = cc
+
+pub calendar-date-spec : {M : Type 1} → statement M
+calendar-date-spec = tie.close (tie.spec text-of-requires returns)

@@ -1,0 +1,32 @@
+use mathlib.Core.Path.{_≡_, ap, sym, _∙_}
+use Rattle.register_c.specs.Faces.{flatWritten}
+use borrow.Author.Needs.{needs}
+use Rattle.register_c.proofs.files.flat_written.Statement.{statement}
+use Rattle.register_c.proofs.files.flat_written.Tie as tie
+use Rattle.register_c.proofs.files.flat_written.Reads as reads
+use Rattle.register_c.proofs.files.flat_written.Lts as lts
+use Rattle.register_c.proofs.files.unwritten.Reads as unwritten-reads
+
+-- src/files.rt:99:26
+enum-known-x : tie.Need-enum-known-x
+enum-known-x c = search needs
+
+-- src/files.rt:105:26
+enum-known-x-2 : tie.Need-enum-known-x-2
+enum-known-x-2 c = search needs
+
+-- src/files.rt:105:32
+unwritten-requires : tie.Need-unwritten-requires
+unwritten-requires c κs = search needs
+
+-- src/files.rt:95:1
+returns : tie.Need-returns
+returns c = sym (ap flatWritten (c .before .x .given .1))
+
+-- src/files.rt:95:1
+returns-2 : tie.Need-returns-2
+returns-2 c = c .unwritten .ensures ∙ sym (ap flatWritten (c .before .before .x2 .given .1))
+
+pub flat-written-spec : {M : Type 1} → statement M
+flat-written-spec =
+    tie.close (tie.spec enum-known-x enum-known-x-2 unwritten-requires returns returns-2)

@@ -1,0 +1,47 @@
+use Rattle.register_c.proofs.Writes.{written-of}
+use borrow.Author.Needs.{needs}
+use Rattle.register_c.proofs.files.notification_write.Statement.{statement}
+use Rattle.register_c.proofs.files.notification_write.Tie as tie
+use Rattle.register_c.proofs.files.notification_write.Reads as reads
+use Rattle.register_c.proofs.files.notification_write.Lts as lts
+use Rattle.register_c.proofs.files.flat_written.Reads as flat-written-reads
+use Rattle.register_c.proofs.files.note_of.Reads as note-of-reads
+use Rattle.writer.proofs.writing.write_file.Reads as write-file-reads
+
+-- src/files.rt:115:9
+note-of-requires : tie.Need-note-of-requires
+note-of-requires c κs = search needs
+
+-- src/files.rt:116:9
+write-file-requires : tie.Need-write-file-requires
+write-file-requires c κs = search needs
+
+-- src/files.rt:117:5
+flat-written-requires : tie.Need-flat-written-requires
+flat-written-requires c κs = search needs
+
+-- src/files.rt:111:1
+same-length : tie.Need-same-length
+same-length c = search needs
+
+-- src/files.rt:111:1
+same-length-2 : tie.Need-same-length-2
+same-length-2 c = search needs
+
+-- src/files.rt:111:1
+returns : tie.Need-returns
+returns c =
+    written-of (c .before .before .before .before .before .before .before .before .note-of .ensures)
+    (c .before .before .before .before .before .write-file .ensures)
+    (c .flat-written .ensures)
+
+pub notification-write-spec : {M : Type 1} → statement M
+notification-write-spec =
+    tie.close
+    (tie.spec
+    note-of-requires
+    write-file-requires
+    flat-written-requires
+    same-length
+    same-length-2
+    returns)

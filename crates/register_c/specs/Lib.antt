@@ -1,0 +1,2 @@
+-- Answers as flat records, for programs in C and Rust.
+pub mod Faces

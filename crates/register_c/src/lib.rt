@@ -1,0 +1,16 @@
+// The face of the register for programs in C and Rust: its calls, the notification file and the calendar, with flat structs for
+// answers. The caller holds the head and the columns, and lends or hands over both at each call.
+pub mod asking;
+pub mod calls;
+pub mod days;
+pub mod files;
+
+use answers::Said;
+use register::Head;
+
+// The head that a call leaves, and what it says.
+#[repr(C)]
+pub struct Turn {
+    pub head: Head,
+    pub said: Said,
+}
