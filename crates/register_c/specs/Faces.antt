@@ -10,22 +10,10 @@ use Rattle.notification.specs.declared.Notification.{Notification}
 use Rattle.notification.specs.declared.Reading.{Reading}
 use Rattle.notification.specs.declared.Written.{Written}
 use Rattle.notification.specs.declared.Written.the-variants.{Lengths, Refused}
-use Rattle.ledger.specs.Ledger.{Ledger}
-use Rattle.ledger.specs.Calls.{Outcome}
 use Rattle.ledger.specs.declared.Shown.{Shown}
-use Rattle.answers.specs.Values.{saidOf}
-use Rattle.answers.specs.declared.Said.{Said}
 use Rattle.register_c.specs.declared.files.FileRead.{FileRead}
 use Rattle.register_c.specs.declared.files.FileWritten.{FileWritten}
 use Rattle.register_c.specs.declared.asking.RecordShown.{RecordShown}
-
--- the ledger that a call leaves, and what it says
-pub record Told : Type 0 where
-  pub ledger : Ledger
-  pub said : Said
-
-abbrev pub told : Outcome → Told
-told o = record { ledger = o .ledger; said = saidOf (o .answer) }
 
 abbrev pub verdictNumber : Verdict → ℕ
 verdictNumber Pass = 0

@@ -7,23 +7,10 @@ ghost use Rattle.ledger.specs.Ledger.{fresh};
 ghost use Rattle.ledger.specs.Calls.{step};
 ghost use Rattle.tables.specs.Tables.{Columns};
 ghost use Rattle.register.specs.View.{view};
-ghost use Rattle.register_c.specs.Faces.{Told, told};
-use crate::Turn;
-use answers::of_answer;
+ghost use Rattle.turns.specs.Told.{Told, told};
 use register::Head;
-use register::Reply;
-
-// A reply as C and Rust see it.
-fn turn(reply: Reply) -> Turn
-    ensures { λ r. ⌜ ((cols : Columns) (loads : List (List ℕ)) → _≡_ {A = Told} (record { ledger = view (r .head) cols loads; said = r .said }) (told (record { ledger = view (reply .head) cols loads; answer = reply .answer }))) ⌝ }
-{
-    let head = reply.head;
-    let answer = reply.answer;
-    Turn {
-        head: head,
-        said: of_answer(answer),
-    }
-}
+use turns::Turn;
+use turns::turned;
 
 // A register that holds nothing, with its clock at day 0, minute 0.
 #[no_mangle]
@@ -39,7 +26,7 @@ pub extern "C" fn register_enrol_actor(head: Head, code: &[u8], first: u32, last
     ensures { λ r. ⌜ ((cols : Columns) (loads : List (List ℕ)) → _≡_ {A = Told} (record { ledger = view (r .head) cols loads; said = r .said }) (told (step (view head cols loads) (enrolActor (now (code .entry)) first last)))) ⌝ }
 {
     let reply = head.enrol_actor(code, first, last);
-    turn(reply)
+    turned(reply)
 }
 
 // Enrols a category, and says how many there now are.
@@ -48,7 +35,7 @@ pub extern "C" fn register_enrol_category(head: Head, text: &[u8]) -> Turn
     ensures { λ r. ⌜ ((cols : Columns) (loads : List (List ℕ)) → _≡_ {A = Told} (record { ledger = view (r .head) cols loads; said = r .said }) (told (step (view head cols loads) (enrolCategory (now (text .entry)))))) ⌝ }
 {
     let reply = head.enrol_category(text);
-    turn(reply)
+    turned(reply)
 }
 
 // Loads an actor's approved power and powers for a category and a day, and says how many loads there now are.
@@ -65,7 +52,7 @@ pub extern "C" fn register_load(
     ensures { λ r. ⌜ ((cols : Columns) → _≡_ {A = Told} (record { ledger = view (r .head) cols (now (loads .exit)); said = r .said }) (told (step (view head cols (now (loads .entry))) (load (now (actor .entry)) (now (category .entry)) day approved (now (powers .entry)))))) ⌝ }
 {
     let reply = head.load(loads, actor, category, day, approved, powers);
-    turn(reply)
+    turned(reply)
 }
 
 // Files a notification by its submitter's code, its file's name and its body, and says id, status and from-step.
@@ -83,7 +70,7 @@ pub extern "C" fn register_file(
     ensures { λ r. ⌜ _≡_ {A = Told} (record { ledger = view (r .head) (record { keys = now (keys .exit); marks = now (marks .exit); rows = now (rows .exit) }) (now (loads .entry)); said = r .said }) (told (step (view head (record { keys = now (keys .entry); marks = now (marks .entry); rows = now (rows .entry) }) (now (loads .entry))) (file (now (submitter .entry)) (now (name .entry)) (now (body .entry))))) ⌝ }
 {
     let reply = head.file(keys, marks, rows, loads, submitter, name, body);
-    turn(reply)
+    turned(reply)
 }
 
 // Advances the clock.
@@ -92,5 +79,5 @@ pub extern "C" fn register_advance(head: Head, day: u32, minute: u32) -> Turn
     ensures { λ r. ⌜ ((cols : Columns) (loads : List (List ℕ)) → _≡_ {A = Told} (record { ledger = view (r .head) cols loads; said = r .said }) (told (step (view head cols loads) (advance day minute)))) ⌝ }
 {
     let reply = head.advance(day, minute);
-    turn(reply)
+    turned(reply)
 }

@@ -4,13 +4,3 @@ pub mod asking;
 pub mod calls;
 pub mod days;
 pub mod files;
-
-use answers::Said;
-use register::Head;
-
-// The head that a call leaves, and what it says.
-#[repr(C)]
-pub struct Turn {
-    pub head: Head,
-    pub said: Said,
-}

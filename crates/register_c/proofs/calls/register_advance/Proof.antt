@@ -1,24 +1,24 @@
 use mathlib.Core.Path.{_≡_, ap, sym, _∙_}
-use Rattle.register_c.specs.Faces.{told}
+use Rattle.turns.specs.Told.{told}
 use borrow.Author.Needs.{needs}
 use Rattle.register_c.proofs.calls.register_advance.Statement.{statement}
 use Rattle.register_c.proofs.calls.register_advance.Tie as tie
 use Rattle.register_c.proofs.calls.register_advance.Reads as reads
 use Rattle.register_c.proofs.calls.register_advance.Lts as lts
 use Rattle.register.proofs.Head.advance.Reads as advance-reads
-use Rattle.register_c.proofs.calls.turn.Reads as turn-reads
+use Rattle.turns.proofs.turned.Reads as turned-reads
 
 -- src/calls.rt:94:9
 advance-requires : tie.Need-advance-requires
 advance-requires c κs = search needs
 
 -- src/calls.rt:95:5
-turn-requires : tie.Need-turn-requires
-turn-requires c κs = search needs
+turned-requires : tie.Need-turned-requires
+turned-requires c κs = search needs
 
 -- src/calls.rt:90:1
 returns : tie.Need-returns
-returns c = λ cols loads. c .turn .ensures cols loads ∙ ap told (c .before .advance .ensures cols loads)
+returns c = λ cols loads. c .turned .ensures cols loads ∙ ap told (c .before .advance .ensures cols loads)
 
 pub register-advance-spec : {M : Type 1} → statement M
-register-advance-spec = tie.close (tie.spec advance-requires turn-requires returns)
+register-advance-spec = tie.close (tie.spec advance-requires turned-requires returns)

@@ -1,24 +1,24 @@
 use mathlib.Core.Path.{_≡_, ap, sym, _∙_}
-use Rattle.register_c.specs.Faces.{told}
+use Rattle.turns.specs.Told.{told}
 use borrow.Author.Needs.{needs}
 use Rattle.register_c.proofs.calls.register_enrol_actor.Statement.{statement}
 use Rattle.register_c.proofs.calls.register_enrol_actor.Tie as tie
 use Rattle.register_c.proofs.calls.register_enrol_actor.Reads as reads
 use Rattle.register_c.proofs.calls.register_enrol_actor.Lts as lts
 use Rattle.register.proofs.Head.enrol_actor.Reads as enrol-actor-reads
-use Rattle.register_c.proofs.calls.turn.Reads as turn-reads
+use Rattle.turns.proofs.turned.Reads as turned-reads
 
 -- src/calls.rt:41:9
 enrol-actor-requires : tie.Need-enrol-actor-requires
 enrol-actor-requires c κs = search needs
 
 -- src/calls.rt:42:5
-turn-requires : tie.Need-turn-requires
-turn-requires c κs = search needs
+turned-requires : tie.Need-turned-requires
+turned-requires c κs = search needs
 
 -- src/calls.rt:37:1
 returns : tie.Need-returns
-returns c = λ cols loads. c .turn .ensures cols loads ∙ ap told (c .before .enrol-actor .ensures cols loads)
+returns c = λ cols loads. c .turned .ensures cols loads ∙ ap told (c .before .enrol-actor .ensures cols loads)
 
 pub register-enrol-actor-spec : {M : Type 1} → statement M
-register-enrol-actor-spec = tie.close (tie.spec enrol-actor-requires turn-requires returns)
+register-enrol-actor-spec = tie.close (tie.spec enrol-actor-requires turned-requires returns)

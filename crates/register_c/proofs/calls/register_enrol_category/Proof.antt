@@ -1,24 +1,24 @@
 use mathlib.Core.Path.{_≡_, ap, sym, _∙_}
-use Rattle.register_c.specs.Faces.{told}
+use Rattle.turns.specs.Told.{told}
 use borrow.Author.Needs.{needs}
 use Rattle.register_c.proofs.calls.register_enrol_category.Statement.{statement}
 use Rattle.register_c.proofs.calls.register_enrol_category.Tie as tie
 use Rattle.register_c.proofs.calls.register_enrol_category.Reads as reads
 use Rattle.register_c.proofs.calls.register_enrol_category.Lts as lts
 use Rattle.register.proofs.Head.enrol_category.Reads as enrol-category-reads
-use Rattle.register_c.proofs.calls.turn.Reads as turn-reads
+use Rattle.turns.proofs.turned.Reads as turned-reads
 
 -- src/calls.rt:50:9
 enrol-category-requires : tie.Need-enrol-category-requires
 enrol-category-requires c κs = search needs
 
 -- src/calls.rt:51:5
-turn-requires : tie.Need-turn-requires
-turn-requires c κs = search needs
+turned-requires : tie.Need-turned-requires
+turned-requires c κs = search needs
 
 -- src/calls.rt:46:1
 returns : tie.Need-returns
-returns c = λ cols loads. c .turn .ensures cols loads ∙ ap told (c .before .enrol-category .ensures cols loads)
+returns c = λ cols loads. c .turned .ensures cols loads ∙ ap told (c .before .enrol-category .ensures cols loads)
 
 pub register-enrol-category-spec : {M : Type 1} → statement M
-register-enrol-category-spec = tie.close (tie.spec enrol-category-requires turn-requires returns)
+register-enrol-category-spec = tie.close (tie.spec enrol-category-requires turned-requires returns)

@@ -1,24 +1,24 @@
 use mathlib.Core.Path.{_≡_, ap, sym, _∙_}
-use Rattle.register_c.specs.Faces.{told}
+use Rattle.turns.specs.Told.{told}
 use borrow.Author.Needs.{needs}
 use Rattle.register_c.proofs.calls.register_file.Statement.{statement}
 use Rattle.register_c.proofs.calls.register_file.Tie as tie
 use Rattle.register_c.proofs.calls.register_file.Reads as reads
 use Rattle.register_c.proofs.calls.register_file.Lts as lts
 use Rattle.register.proofs.Head.file.Reads as file-reads
-use Rattle.register_c.proofs.calls.turn.Reads as turn-reads
+use Rattle.turns.proofs.turned.Reads as turned-reads
 
 -- src/calls.rt:85:9
 file-requires : tie.Need-file-requires
 file-requires c κs = search needs
 
 -- src/calls.rt:86:5
-turn-requires : tie.Need-turn-requires
-turn-requires c κs = search needs
+turned-requires : tie.Need-turned-requires
+turned-requires c κs = search needs
 
 -- src/calls.rt:72:1
 returns : tie.Need-returns
-returns c = c .turn .ensures _ _ ∙ ap told (c .before .file .ensures)
+returns c = c .turned .ensures _ _ ∙ ap told (c .before .file .ensures)
 
 pub register-file-spec : {M : Type 1} → statement M
-register-file-spec = tie.close (tie.spec file-requires turn-requires returns)
+register-file-spec = tie.close (tie.spec file-requires turned-requires returns)

@@ -1,24 +1,24 @@
 use mathlib.Core.Path.{_≡_, ap, sym, _∙_}
-use Rattle.register_c.specs.Faces.{told}
+use Rattle.turns.specs.Told.{told}
 use borrow.Author.Needs.{needs}
 use Rattle.register_c.proofs.calls.register_load.Statement.{statement}
 use Rattle.register_c.proofs.calls.register_load.Tie as tie
 use Rattle.register_c.proofs.calls.register_load.Reads as reads
 use Rattle.register_c.proofs.calls.register_load.Lts as lts
 use Rattle.register.proofs.Head.load.Reads as load-reads
-use Rattle.register_c.proofs.calls.turn.Reads as turn-reads
+use Rattle.turns.proofs.turned.Reads as turned-reads
 
 -- src/calls.rt:67:9
 load-requires : tie.Need-load-requires
 load-requires c κs = search needs
 
 -- src/calls.rt:68:5
-turn-requires : tie.Need-turn-requires
-turn-requires c κs = search needs
+turned-requires : tie.Need-turned-requires
+turned-requires c κs = search needs
 
 -- src/calls.rt:55:1
 returns : tie.Need-returns
-returns c = λ cols. c .turn .ensures cols _ ∙ ap told (c .before .load .ensures cols)
+returns c = λ cols. c .turned .ensures cols _ ∙ ap told (c .before .load .ensures cols)
 
 pub register-load-spec : {M : Type 1} → statement M
-register-load-spec = tie.close (tie.spec load-requires turn-requires returns)
+register-load-spec = tie.close (tie.spec load-requires turned-requires returns)
