@@ -1,0 +1,8 @@
+-- What holds of the lines.
+pub mod Examples
+pub mod Parting
+pub mod Numerals
+pub mod Powers
+pub mod LineKinds
+pub mod LoadLines
+pub mod Letters

@@ -1,0 +1,2 @@
+-- What a line of the script does.
+pub mod Lines

@@ -1,0 +1,80 @@
+// A line answered.
+ghost use mathlib.Core.Path.{_≡_};
+ghost use lib.ListN.{length};
+ghost use lib.Seq.{sets};
+ghost use Rattle.register.specs.View.{view};
+ghost use Rattle.turns.specs.Told.{Told};
+ghost use Rattle.script.specs.Lines.{lineOf, powersOf};
+ghost use Rattle.session.specs.Lines.{lineStep};
+use crate::asking;
+use crate::calling;
+use register::Head;
+use script::reading::Line;
+use script::reading::read_line;
+use turns::Turn;
+
+// Answers a line, which has no LF. `readable` says whether the file that the line names can be read, and `body` has its bytes. The
+// powers of a load are put into lent places, the rest of them untouched.
+pub fn answer(
+    head: Head,
+    keys: &mut [u32; 256],
+    marks: &mut [[u8; 4]; 256],
+    rows: &mut [[u16; 50]; 256],
+    loads: &mut [[u16; 50]; 64],
+    powers: &mut [u32; 256],
+    line: &[u8],
+    readable: bool,
+    body: &[u8],
+) -> Turn
+    ensures { λ r. ⌜ (_≡_ {A = Told} (record { ledger = view (r .head) (record { keys = now (keys .exit); marks = now (marks .exit); rows = now (rows .exit) }) (now (loads .exit)); said = r .said }) (lineStep (view head (record { keys = now (keys .entry); marks = now (marks .entry); rows = now (rows .entry) }) (now (loads .entry))) readable (now (body .entry)) (lineOf (now (line .entry))))) × (now (powers .exit) ≡ sets (now (powers .entry)) 0 (powersOf (lineOf (now (line .entry))))) ⌝ }
+{
+    let asked = read_line(line, &mut *powers);
+    match asked {
+        Line::Advance(day, minute) => calling::advance(head, day, minute),
+        Line::EnrolActor(code, first, last) => calling::enrol_actor(head, line, code, first, last),
+        Line::EnrolCategory => calling::enrol_category(head, line),
+        Line::Load(actor, category, day, approved, count) => calling::load(
+            head,
+            loads,
+            &*powers,
+            line,
+            actor,
+            category,
+            day,
+            approved,
+            count,
+        ),
+        Line::File(submitter) => {
+            if !readable {
+                return calling::no_call(head);
+            }
+            calling::file(head, keys, marks, rows, &*loads, line, submitter, body)
+        }
+        Line::Engagement(actor, category, day, step) => {
+            let said = asking::engagement(
+                head,
+                &*keys,
+                &*marks,
+                &*rows,
+                &*loads,
+                line,
+                actor,
+                category,
+                day,
+                step,
+            );
+            Turn {
+                head: head,
+                said: said,
+            }
+        }
+        Line::RecordOf(asker, id) => {
+            let said = asking::record(head, &*keys, &*marks, &*rows, line, asker, id);
+            Turn {
+                head: head,
+                said: said,
+            }
+        }
+        Line::Unknown => calling::no_call(head),
+    }
+}
