@@ -2,7 +2,7 @@
 //! history. Then the test of the test: each faulty copy of the peer must be told from the register by the same lists.
 //!
 //! `LISTS` and `SEED` set how many lists there are and which; the seed of a run is printed. Status 1 says that something differs, that
-//! a refusal or a change of a status was never met, or that a fault was not found.
+//! a refusal or a change of a status was never met, or that a fault was not found; the last two are asked of long runs only.
 
 mod compare;
 mod damage;
@@ -31,6 +31,8 @@ mod faulty {
 }
 
 const LISTS: u64 = 8000;
+/// So many lists meet every refusal and every fault.
+const ENOUGH: u64 = 2000;
 
 fn setting(name: &str, otherwise: u64) -> u64 {
     match env::var(name) {
@@ -116,6 +118,10 @@ fn main() -> ExitCode {
     }
     let wrong = tally.print();
     println!("{} calls, no difference, {:.1} s", tally.calls(), start.elapsed().as_secs_f64());
+    if lists < ENOUGH {
+        println!("with fewer than {ENOUGH} lists not every refusal and fault is looked for");
+        return ExitCode::SUCCESS;
+    }
     if !wrong.is_empty() {
         return failed(wrong.join("\n"));
     }
