@@ -9,10 +9,10 @@ for tool in rt cc valgrind; do
         exit 1
     fi
 done
-rt staticlib register_c
+source tests/static_library.bash
 folder=$(mktemp -d)
 trap 'rm -rf "$folder"' EXIT
-cc -std=c11 -Wall -Wextra -Werror -I c c/example.c target/staticlib/libregister_c.a -o "$folder/example"
+cc -std=c11 -Wall -Wextra -Werror -I c c/example.c "$library" -o "$folder/example"
 "$folder/example" > "$folder/stdout"
 diff c/example.stdout "$folder/stdout"
 valgrind --error-exitcode=1 --leak-check=full -q "$folder/example" > /dev/null

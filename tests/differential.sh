@@ -10,7 +10,7 @@ for tool in rt cargo valgrind; do
         exit 1
     fi
 done
-rt staticlib register_c
+source tests/static_library.bash
 cargo() {
     command cargo "$@" --offline --quiet --profile differential --manifest-path rust/Cargo.toml
 }
