@@ -3,6 +3,8 @@
 use std::collections::BTreeSet;
 use std::fmt::Debug;
 
+use peer::calendar::{day_of, steps};
+
 use crate::sides::{make, Answer, Call, Side};
 use crate::tally::Tally;
 
@@ -65,7 +67,8 @@ impl Seen {
             (Call::EnrolActor { code, .. }, _) => self.actors.push(code.clone()),
             (Call::EnrolCategory { text }, _) => self.categories.push(text.clone()),
             (Call::Load { day, .. }, _) => self.days.extend([*day]),
-            (Call::File { name, .. }, Answer::Filed { status, .. }) => {
+            (Call::File { name, .. }, Answer::Filed { status, from, .. }) => {
+                tally.filed(day_of(&name[38..46]).map_or(0, steps), *from);
                 self.records.push((name[4..20].to_vec(), *status));
                 tally.change('-', *status);
             }

@@ -18,6 +18,9 @@ const REFUSALS: [(Kind, &[u32]); 10] = [
     (Kind::Write, &[9, 10, 8, 36]),
 ];
 
+/// Steps of the day of an accepted filing, and whether its first counted step is 0.
+const DAYS: [(usize, bool); 6] = [(46, true), (46, false), (48, true), (48, false), (50, true), (50, false)];
+
 /// The changes that rules 1 to 3 make; a record is born from nothing, here '-'.
 const CHANGES: [(char, char); 6] = [('-', 'C'), ('-', 'V'), ('C', 'S'), ('C', 'A'), ('V', 'O'), ('V', 'P')];
 
@@ -26,6 +29,7 @@ pub struct Tally {
     /// By call and refusal, 0 for an accepted call.
     answers: BTreeMap<(Kind, u32), u64>,
     changes: BTreeMap<(char, char), u64>,
+    days: BTreeMap<(usize, bool), u64>,
 }
 
 impl Tally {
@@ -39,6 +43,11 @@ impl Tally {
 
     pub fn refusal(&mut self, kind: Kind, number: u32) {
         *self.answers.entry((kind, number)).or_default() += 1;
+    }
+
+    /// An accepted filing for a day of so many steps.
+    pub fn filed(&mut self, steps: usize, from: u32) {
+        *self.days.entry((steps, from == 0)).or_default() += 1;
     }
 
     pub fn change(&mut self, from: char, to: char) {
@@ -64,6 +73,16 @@ impl Tally {
             let others = self.answers.keys().filter(|(k, n)| *k == kind && *n != 0 && !refusals.contains(n));
             wrong.extend(others.map(|(_, number)| format!("{kind:?} answered {number}, which it can't")));
         }
+        print!("accepted filings by steps of the day:");
+        for (steps, whole) in DAYS {
+            let count = self.days.get(&(steps, whole)).copied().unwrap_or(0);
+            let from = if whole { "from step 0" } else { "from a later one" };
+            print!(" {steps} {from} {count}");
+            if count == 0 {
+                wrong.push(format!("no filing was accepted for a day of {steps} steps {from}"));
+            }
+        }
+        println!();
         print!("statuses:");
         for (from, to) in CHANGES {
             let count = self.changes.get(&(from, to)).copied().unwrap_or(0);

@@ -56,6 +56,8 @@ mod notification;
 mod record;
 mod refusal;
 
+use core::fmt;
+
 pub use day::{Day, NoDate};
 pub use notification::{Category, Code, Notification, BODY_LENGTH, NAME_LENGTH, STEPS};
 pub use record::{Filed, Record, Status};
@@ -90,6 +92,21 @@ pub struct Register {
     marks: ffi::Marks,
     rows: ffi::Rows,
     loads: ffi::LoadRows,
+}
+
+/// The clock and how much there is of everything.
+impl fmt::Debug for Register {
+    fn fmt(&self, f: &mut fmt::Formatter<'_>) -> fmt::Result {
+        let ffi::Head { clock, actors, categories, loads, records } = &self.head;
+        f.debug_struct("Register")
+            .field("day", &Day(clock.day))
+            .field("minute", &clock.minute)
+            .field("actors", &actors.count)
+            .field("categories", &categories.count)
+            .field("loads", &loads.count)
+            .field("records", &records.count)
+            .finish()
+    }
 }
 
 impl Default for Register {
