@@ -5,7 +5,8 @@ use std::fmt::Debug;
 
 use peer::calendar::{day_of, steps};
 
-use crate::sides::{make, Answer, Call, Side};
+use crate::calls::{make, Answer, Call};
+use crate::sides::Side;
 use crate::tally::Tally;
 
 /// Where two sides differ.

@@ -1,6 +1,6 @@
 //! Files with mistakes.
 
-use crate::lists::{code, Note};
+use crate::notes::{code, Note};
 use crate::random::Random;
 
 /// The file of a note with one mistake, or more.

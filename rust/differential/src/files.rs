@@ -3,10 +3,10 @@
 use peer::calendar::{date_text, day_of, steps, LAST_DAY};
 use register::{Category, Code, Day, Notification, BODY_LENGTH, NAME_LENGTH};
 
+use crate::calls::Kind;
 use crate::damage::damaged;
-use crate::lists::{code, Note};
+use crate::notes::{code, Note};
 use crate::random::Random;
-use crate::sides::Kind;
 use crate::tally::Tally;
 
 /// Every day, the numbers past the last, and texts that are no dates.

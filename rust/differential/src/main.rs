@@ -4,10 +4,12 @@
 //! `LISTS` and `SEED` set how many lists there are and which; the seed of a run is printed. Status 1 says that something differs, that
 //! a refusal or a change of a status was never met, or that a fault was not found; the last two are asked of long runs only.
 
+mod calls;
 mod compare;
 mod damage;
 mod files;
 mod lists;
+mod notes;
 mod random;
 mod sides;
 mod tally;
@@ -16,10 +18,11 @@ use std::process::ExitCode;
 use std::time::{Instant, SystemTime, UNIX_EPOCH};
 use std::{env, fmt::Display};
 
+use calls::Call;
 use compare::Difference;
 use random::Random;
 use register::Register;
-use sides::{sound, Call, Side};
+use sides::{sound, Side};
 use tally::Tally;
 
 include!("../faults.rs");

@@ -2,7 +2,7 @@
 
 use std::collections::BTreeMap;
 
-use crate::sides::{Answer, Kind};
+use crate::calls::{Answer, Kind};
 
 /// The refusals that each call can give, by document 01's "Order".
 const REFUSALS: [(Kind, &[u32]); 10] = [
