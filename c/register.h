@@ -9,8 +9,8 @@
  *
  * Every function answers for every argument: a result, or one refusal of document 01 as its number and place. A refused call gives
  * back the head that it got, and writes nothing. A text or a list is a pointer and a length; it may be anything, and its form is
- * judged by the call. A pointer must be good for its length, or for the whole array that it stands for, and what a call may write
- * must not overlap what else it is lent.
+ * judged by the call. A pointer is never null and must be good for its length, or for the whole array that it stands for, and what a
+ * call may write must not overlap what else it is lent.
  */
 #ifndef REGISTER_H
 #define REGISTER_H
