@@ -164,7 +164,7 @@ const _: () = {
     assert!(size_of::<Rows>() == 25600 && size_of::<LoadRows>() == 6400);
 };
 
-// SAFETY: these are the functions of crates/register_c/src/lib.rt with their types. A reference to an array is one pointer there, a
+// SAFETY: these are the functions of crates/register_c/src with their types. A reference to an array is one pointer there, a
 // slice a pointer and a length. The `safe` ones take no slice, so that every argument that Rust lets pass is a good one: they are
 // total, and write nothing but their result and what they are lent as `&mut`.
 unsafe extern "C" {
