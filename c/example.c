@@ -1,0 +1,136 @@
+/* Two actors exchange reserve on a long day, in the intraday too; every answer is printed. What it must print is in example.stdout. */
+#include <stdio.h>
+#include <string.h>
+
+#include "register.h"
+
+/* The register: its head and its columns. */
+static register_head head;
+static register_columns columns;
+
+static const char north[] = "17X100A100R0000L";
+static const char south[] = "17X100A100R0001J";
+static const char category[] = "13120";
+
+/* A text as a pointer and a length. */
+#define TEXT(text) (const uint8_t *)(text), strlen(text)
+
+/* Prints a call and what it says: its values, or number and place of the refusal. */
+static void print(const char *call, register_said said)
+{
+    printf("%s:", call);
+    if (said.number != 0) {
+        printf(" refused by %u at %u", (unsigned)said.number, (unsigned)said.place);
+    }
+    for (uint32_t i = 0; i < said.count; i++) {
+        if (i == said.letter) {
+            printf(" %c", (int)said.values[i]);
+        } else {
+            printf(" %u", (unsigned)said.values[i]);
+        }
+    }
+    printf("\n");
+}
+
+/* Takes over the head that a call leaves, and prints what it says. */
+static void take(const char *call, register_turn turn)
+{
+    head = turn.head;
+    print(call, turn.said);
+}
+
+static uint32_t day_of(const char *date)
+{
+    return calendar_day(TEXT(date));
+}
+
+static void load(const char *actor, uint32_t day, uint32_t approved, uint32_t power)
+{
+    uint32_t powers[REGISTER_STEPS];
+    for (size_t k = 0; k < REGISTER_STEPS; k++) {
+        powers[k] = power;
+    }
+    take("load", register_load(head, columns.loads, TEXT(actor), TEXT(category), day, approved, powers, calendar_steps(day)));
+}
+
+/* Files an exchange of one power from north to south, by one of them. */
+static void file(const char *submitter, uint32_t day, uint16_t power)
+{
+    uint8_t name[NOTIFICATION_NAME];
+    uint8_t body[NOTIFICATION_BODY];
+    notification_file n = {.day = day, .steps = calendar_steps(day)};
+    memcpy(n.ceder, north, sizeof n.ceder);
+    memcpy(n.acquirer, south, sizeof n.acquirer);
+    memcpy(n.category, category, strlen(category));
+    for (uint32_t k = 0; k < n.steps; k++) {
+        n.powers[k] = power;
+    }
+    notification_written written = notification_write(n, name, sizeof name, body, sizeof body);
+    if (written.number != 0) {
+        printf("write: refused by %u at %u\n", (unsigned)written.number, (unsigned)written.place);
+        return;
+    }
+    printf("%.*s, %zu bytes\n", (int)written.name, (const char *)name, written.body);
+    take("file", register_file(head, columns.keys, columns.marks, columns.rows, columns.loads, TEXT(submitter), name, written.name,
+                               body, written.body));
+}
+
+static void engagement(const char *actor, uint32_t day, uint32_t step)
+{
+    char call[64];
+    snprintf(call, sizeof call, "engagement of %s at step %u", actor, (unsigned)step);
+    print(call, register_engagement(head, columns.keys, columns.marks, columns.rows, columns.loads, TEXT(actor), TEXT(category), day,
+                                    step));
+}
+
+static void record(const char *asker, uint32_t id)
+{
+    register_record_shown shown = register_record(head, columns.keys, columns.marks, columns.rows, TEXT(asker), id);
+    if (shown.number != 0) {
+        printf("record %u: refused by %u at %u\n", (unsigned)id, (unsigned)shown.number, (unsigned)shown.place);
+        return;
+    }
+    calendar_text date = calendar_date(shown.day);
+    printf("record %u: %c, %.16s to %.16s, %.8s, steps %u to %u, %u MW at first, filed by %.16s\n", (unsigned)id, (int)shown.status,
+           (const char *)shown.ceder, (const char *)shown.acquirer, (const char *)date.digits, (unsigned)shown.from,
+           (unsigned)shown.until, (unsigned)shown.powers[shown.from], (const char *)shown.submitter);
+}
+
+int main(void)
+{
+    uint32_t day = day_of("20211031");
+    uint32_t ids[REGISTER_RECORDS];
+
+    head = register_fresh();
+    printf("day %u has %u steps\n", (unsigned)day, (unsigned)calendar_steps(day));
+    take("advance", register_advance(head, day - 1, 600));
+    take("enrol", register_enrol_actor(head, TEXT(north), day - 30, day + 30));
+    take("enrol", register_enrol_actor(head, TEXT(south), day - 30, day + 30));
+    take("enrol", register_enrol_category(head, TEXT(category)));
+    load(north, day, 100, 60);
+    load(south, day, 100, 0);
+
+    engagement(north, day, 49);
+    file(north, day, 40);
+    file(south, day, 40);
+    engagement(north, day, 49);
+    engagement(south, day, 49);
+
+    take("advance", register_advance(head, day, 600));
+    file(south, day, 50);
+    file(north, day, 50);
+    engagement(south, day, 21);
+    engagement(south, day, 22);
+    for (uint32_t id = 1; id <= 5; id++) {
+        record(north, id);
+    }
+    register_said history = register_history(head, columns.keys, TEXT(south), ids, REGISTER_RECORDS);
+    print("history", history);
+    for (uint32_t i = 0; history.number == 0 && i < history.values[0]; i++) {
+        printf("  id %u\n", (unsigned)ids[i]);
+    }
+    print("history", register_history(head, columns.keys, TEXT(south), ids, 3));
+    file(north, day, 61);
+    take("advance", register_advance(head, day, 599));
+    return 0;
+}

@@ -1,0 +1,278 @@
+/* The reserve exchange register for C: the functions of the proved static library register_c.
+ *
+ *     rt staticlib register_c
+ *     cc -std=c11 -Wall -Wextra -Werror -I c program.c target/staticlib/libregister_c.a
+ *
+ * The caller holds the register: a head, which each call takes by value and gives back, and the columns, which it is lent. A fresh
+ * register is register_fresh()'s head with columns of zeros. Calls go one after another, each with the head and the columns that the
+ * one before left. There is no heap and no hidden state.
+ *
+ * Every function answers for every argument: a result, or one refusal of document 01 as its number and place. A refused call gives
+ * back the head that it got, and writes nothing. A text or a list is a pointer and a length; it may be anything, and its form is
+ * judged by the call. A pointer is never null and must be good for its length, or for the whole array that it stands for, and what a
+ * call may write must not overlap what else it is lent.
+ */
+#ifndef REGISTER_H
+#define REGISTER_H
+
+#include <stddef.h>
+#include <stdint.h>
+
+#ifdef __cplusplus
+extern "C" {
+#define REGISTER_CHECK(test) static_assert(test, #test)
+#else
+#define REGISTER_CHECK(test) _Static_assert(test, #test)
+#endif
+
+/* Places: 8 actors, 4 categories, 64 loads, 256 records. A day has at most 50 steps. */
+#define REGISTER_ACTORS 8
+#define REGISTER_CATEGORIES 4
+#define REGISTER_LOADS 64
+#define REGISTER_RECORDS 256
+#define REGISTER_STEPS 50
+
+/* Buffers of these lengths take every name and every body that is written. */
+#define NOTIFICATION_NAME 57
+#define NOTIFICATION_BODY 967
+
+/* What calendar_day gives for a text that is no date. */
+#define CALENDAR_NO_DAY 36525
+
+/* ---- The head. Its parts are the register's own: read them if you like, and leave writing to the calls. ---- */
+
+/* A day and the minutes elapsed since its local midnight. */
+typedef struct {
+    uint32_t day;
+    uint32_t minute;
+} register_clock;
+
+/* A 16-character EIC code and a contract from a first to a last day, both included. */
+typedef struct {
+    uint8_t code[16];
+    uint32_t first;
+    uint32_t last;
+} register_actor;
+
+typedef struct {
+    uint32_t count;
+    register_actor entries[REGISTER_ACTORS];
+} register_actors;
+
+/* Five digits, then C or 0. */
+typedef struct {
+    uint8_t text[6];
+} register_category;
+
+typedef struct {
+    uint32_t count;
+    register_category entries[REGISTER_CATEGORIES];
+} register_categories;
+
+/* Actor, category and day of each load as one number, and its approved power. */
+typedef struct {
+    uint32_t count;
+    uint32_t keys[REGISTER_LOADS];
+    uint16_t approved[REGISTER_LOADS];
+} register_loads;
+
+/* Status and id of each record. */
+typedef struct {
+    uint32_t count;
+    uint8_t statuses[REGISTER_RECORDS];
+    uint32_t ids[REGISTER_RECORDS];
+} register_records;
+
+typedef struct {
+    register_clock clock;
+    register_actors actors;
+    register_categories categories;
+    register_loads loads;
+    register_records records;
+} register_head;
+
+/* ---- The columns. ---- */
+
+/* One power for each step, 0 past the day's steps. */
+typedef struct {
+    uint16_t powers[REGISTER_STEPS];
+} register_row;
+
+/* Submitter, from-step and until-step of a record. */
+typedef struct {
+    uint8_t bytes[4];
+} register_mark;
+
+/* All that is lent, for a program that wants it in one place. Zeros at first. */
+typedef struct {
+    uint32_t keys[REGISTER_RECORDS];
+    register_mark marks[REGISTER_RECORDS];
+    register_row rows[REGISTER_RECORDS];
+    register_row loads[REGISTER_LOADS];
+} register_columns;
+
+/* ---- Answers. ---- */
+
+/* Number and place of the refusal, 0 and 0 where the call was accepted; how many values there are, which of them is a status's
+ * letter (3: none), and the values. */
+typedef struct {
+    uint32_t number;
+    uint32_t place;
+    uint32_t count;
+    uint32_t letter;
+    uint32_t values[3];
+} register_said;
+
+/* The head that a call leaves, and what it says. */
+typedef struct {
+    register_head head;
+    register_said said;
+} register_turn;
+
+/* Number and place of the refusal, 0 and 0 where there is none; then the record, which is all zeros beside a refusal. The statuses:
+ * C created, A answered, S deleted, V validated, P validated and updated, O obsolete. */
+typedef struct {
+    uint32_t number;
+    uint32_t place;
+    uint32_t day;
+    uint32_t steps;
+    uint32_t from;
+    uint32_t until; /* not included */
+    uint16_t powers[REGISTER_STEPS];
+    uint8_t submitter[16];
+    uint8_t ceder[16];
+    uint8_t acquirer[16];
+    uint8_t category[6];
+    uint8_t status;
+} register_record_shown;
+
+/* Number and place of the refusal, 0 and 0 where there is none; then the notification, which is all zeros beside a refusal. */
+typedef struct {
+    uint32_t number;
+    uint32_t place;
+    uint32_t day;
+    uint32_t steps;
+    uint16_t powers[REGISTER_STEPS];
+    uint8_t ceder[16];
+    uint8_t acquirer[16];
+    uint8_t category[6];
+} notification_file;
+
+/* Number and place of the refusal, 0 and 0 where there is none; then the lengths of name and body. */
+typedef struct {
+    uint32_t number;
+    uint32_t place;
+    size_t name;
+    size_t body;
+} notification_written;
+
+/* The eight digits of a date, without a final 0. */
+typedef struct {
+    uint8_t digits[8];
+} calendar_text;
+
+/* ---- The calls. What is named after "Values" stands in said.values of an accepted call. ---- */
+
+/* A register that holds nothing, with its clock at day 0, minute 0. */
+register_head register_fresh(void);
+
+/* Enrols an actor. Values: how many actors there now are. Refusals 9, 10, 37, 36. */
+register_turn register_enrol_actor(register_head head, const uint8_t *code, size_t code_length, uint32_t first, uint32_t last);
+
+/* Enrols a category. Values: how many categories there now are. Refusals 9, 37, 36. */
+register_turn register_enrol_category(register_head head, const uint8_t *text, size_t text_length);
+
+/* Gives one actor, category and day an approved power and one loaded power per step. Values: how many loads there now are. Refusals
+ * 10, 22, 23, 39, 37, 36. */
+register_turn register_load(register_head head, register_row loads[REGISTER_LOADS], const uint8_t *actor, size_t actor_length,
+                            const uint8_t *category, size_t category_length, uint32_t day, uint32_t approved,
+                            const uint32_t *powers, size_t powers_length);
+
+/* Files a notification: the submitter's code, the file's name, the file's body. Values: the record's id, its status's letter, its
+ * from-step. Refusals 1 to 8, then 20 to 36. */
+register_turn register_file(register_head head, uint32_t keys[REGISTER_RECORDS], register_mark marks[REGISTER_RECORDS],
+                            register_row rows[REGISTER_RECORDS], const register_row loads[REGISTER_LOADS],
+                            const uint8_t *submitter, size_t submitter_length, const uint8_t *name, size_t name_length,
+                            const uint8_t *body, size_t body_length);
+
+/* Advances the clock; the same moment is accepted. No values. Refusals 10, 38. */
+register_turn register_advance(register_head head, uint32_t day, uint32_t minute);
+
+/* An actor's own engagement at a step. Values: the power. Refusals 22, 23, 10. */
+register_said register_engagement(register_head head, const uint32_t keys[REGISTER_RECORDS],
+                                  const register_mark marks[REGISTER_RECORDS], const register_row rows[REGISTER_RECORDS],
+                                  const register_row loads[REGISTER_LOADS], const uint8_t *actor, size_t actor_length,
+                                  const uint8_t *category, size_t category_length, uint32_t day, uint32_t step);
+
+/* A record by id, for an actor who is ceder or acquirer of it. Refusals 22, 40, 41. */
+register_record_shown register_record(register_head head, const uint32_t keys[REGISTER_RECORDS],
+                                      const register_mark marks[REGISTER_RECORDS], const register_row rows[REGISTER_RECORDS],
+                                      const uint8_t *asker, size_t asker_length, uint32_t id);
+
+/* Puts the ids of all records that an actor is a party to into a lent buffer, each once, the rest untouched. Values: how many they
+ * are. Refusals 22, 36. */
+register_said register_history(register_head head, const uint32_t keys[REGISTER_RECORDS], const uint8_t *actor,
+                               size_t actor_length, uint32_t *ids, size_t ids_length);
+
+/* ---- The notification file. ---- */
+
+/* Reads a file. Refusals 1 to 8. */
+notification_file notification_read(const uint8_t *name, size_t name_length, const uint8_t *body, size_t body_length);
+
+/* Writes a notification's name and body into two lent buffers, the rest untouched; number and place of the notification are not looked
+ * at. Refusals 9, 10, 8, 36. */
+notification_written notification_write(notification_file n, uint8_t *name, size_t name_length, uint8_t *body, size_t body_length);
+
+/* ---- Days. ---- */
+
+/* The day number of eight digits, year month day: 0 for 20000101 to 36524 for 20991231; CALENDAR_NO_DAY where they are no date. */
+uint32_t calendar_day(const uint8_t *date, size_t date_length);
+
+/* The eight digits of a day; eight bytes of 0 where there is no such day. */
+calendar_text calendar_date(uint32_t day);
+
+/* How many steps a day has: 46, 48 or 50; 0 where there is no such day. */
+uint32_t calendar_steps(uint32_t day);
+
+/* Sizes and places as rust/register/src/ffi.rs asserts them too. */
+REGISTER_CHECK(sizeof(register_clock) == 8);
+REGISTER_CHECK(sizeof(register_actor) == 24);
+REGISTER_CHECK(sizeof(register_actors) == 196);
+REGISTER_CHECK(sizeof(register_category) == 6);
+REGISTER_CHECK(sizeof(register_categories) == 28);
+REGISTER_CHECK(sizeof(register_loads) == 388);
+REGISTER_CHECK(offsetof(register_loads, approved) == 260);
+REGISTER_CHECK(sizeof(register_records) == 1284);
+REGISTER_CHECK(offsetof(register_records, ids) == 260);
+REGISTER_CHECK(sizeof(register_head) == 1904);
+REGISTER_CHECK(offsetof(register_head, actors) == 8);
+REGISTER_CHECK(offsetof(register_head, categories) == 204);
+REGISTER_CHECK(offsetof(register_head, loads) == 232);
+REGISTER_CHECK(offsetof(register_head, records) == 620);
+REGISTER_CHECK(sizeof(register_row) == 100);
+REGISTER_CHECK(sizeof(register_mark) == 4);
+REGISTER_CHECK(sizeof(register_said) == 28);
+REGISTER_CHECK(offsetof(register_said, values) == 16);
+REGISTER_CHECK(sizeof(register_turn) == 1932);
+REGISTER_CHECK(offsetof(register_turn, said) == 1904);
+REGISTER_CHECK(sizeof(register_record_shown) == 180);
+REGISTER_CHECK(offsetof(register_record_shown, powers) == 24);
+REGISTER_CHECK(offsetof(register_record_shown, submitter) == 124);
+REGISTER_CHECK(offsetof(register_record_shown, ceder) == 140);
+REGISTER_CHECK(offsetof(register_record_shown, acquirer) == 156);
+REGISTER_CHECK(offsetof(register_record_shown, category) == 172);
+REGISTER_CHECK(offsetof(register_record_shown, status) == 178);
+REGISTER_CHECK(sizeof(notification_file) == 156);
+REGISTER_CHECK(offsetof(notification_file, powers) == 16);
+REGISTER_CHECK(offsetof(notification_file, ceder) == 116);
+REGISTER_CHECK(offsetof(notification_file, acquirer) == 132);
+REGISTER_CHECK(offsetof(notification_file, category) == 148);
+REGISTER_CHECK(sizeof(notification_written) == 8 + 2 * sizeof(size_t));
+REGISTER_CHECK(offsetof(notification_written, name) == 8);
+REGISTER_CHECK(sizeof(calendar_text) == 8);
+
+#ifdef __cplusplus
+}
+#endif
+
+#endif

@@ -1,0 +1,149 @@
+//! One list of calls on two sides: every answer, then everything that can be asked.
+
+use std::collections::BTreeSet;
+use std::fmt::Debug;
+
+use peer::calendar::{day_of, steps};
+
+use crate::calls::{make, Answer, Call};
+use crate::sides::Side;
+use crate::tally::Tally;
+
+/// Where two sides differ.
+pub struct Difference {
+    /// How many of the list's calls were made.
+    pub made: usize,
+    pub asked: String,
+    pub left: String,
+    pub right: String,
+}
+
+/// What the list has accepted so far, by the left side's answers.
+#[derive(Default)]
+struct Seen {
+    actors: Vec<Vec<u8>>,
+    categories: Vec<Vec<u8>>,
+    days: BTreeSet<u32>,
+    /// Each record's ceder, and its status when it was last asked for.
+    records: Vec<(Vec<u8>, char)>,
+}
+
+/// A difference, unless both are the same.
+fn same<T: PartialEq + Debug>(
+    made: usize, left: T, right: T, asked: impl FnOnce() -> String,
+) -> Result<(), Difference> {
+    if left == right {
+        return Ok(());
+    }
+    Err(Difference { made, asked: asked(), left: format!("{left:?}"), right: format!("{right:?}") })
+}
+
+/// Makes the calls on two fresh sides.
+pub fn run<A: Side, B: Side>(calls: &[Call], tally: &mut Tally) -> Result<(), Difference> {
+    let (mut left, mut right, mut seen) = (A::fresh(), B::fresh(), Seen::default());
+    for (i, call) in calls.iter().enumerate() {
+        let (made, before) = (i + 1, left.clone());
+        let answers = (make(&mut left, call), make(&mut right, call));
+        tally.answer(call.kind(), &answers.0);
+        if let Answer::No { .. } = answers.0 {
+            same(made, left.is_as(&before), true, || format!("whether '{call}' left the register as it was"))?;
+        }
+        let filed = matches!(answers.0, Answer::Filed { .. });
+        seen.note(call, &answers.0, tally);
+        same(made, answers.0, answers.1, || call.to_string())?;
+        // The records are compared after each filing while they are few, and now and then when they are many.
+        if filed && (seen.records.len() < 64 || seen.records.len() % 16 == 0) {
+            records(made, &left, &right, &mut seen, tally)?;
+        }
+    }
+    records(calls.len(), &left, &right, &mut seen, tally)?;
+    everything(calls.len(), &left, &right, &seen)
+}
+
+impl Seen {
+    fn note(&mut self, call: &Call, answer: &Answer, tally: &mut Tally) {
+        match (call, answer) {
+            (_, Answer::No { .. } | Answer::NoButWrote { .. }) => {}
+            (Call::Advance { day, .. }, _) => self.days.extend([day.saturating_sub(1), *day, day + 1]),
+            (Call::EnrolActor { code, .. }, _) => self.actors.push(code.clone()),
+            (Call::EnrolCategory { text }, _) => self.categories.push(text.clone()),
+            (Call::Load { day, .. }, _) => self.days.extend([*day]),
+            (Call::File { name, .. }, Answer::Filed { status, from, .. }) => {
+                tally.filed(day_of(&name[38..46]).map_or(0, steps), *from);
+                self.records.push((name[4..20].to_vec(), *status));
+                tally.change('-', *status);
+            }
+            _ => {}
+        }
+    }
+}
+
+/// Every record, asked for by its ceder, with its status's change.
+fn records<A: Side, B: Side>(
+    made: usize, left: &A, right: &B, seen: &mut Seen, tally: &mut Tally,
+) -> Result<(), Difference> {
+    for (id, (ceder, status)) in (1..).zip(&mut seen.records) {
+        let answer = left.record(ceder, id);
+        if let Some(now) = answer.as_ref().ok().map(|shown| shown.status as char).filter(|now| now != status) {
+            tally.change(*status, now);
+            *status = now;
+        }
+        same(made, answer, right.record(ceder, id), || format!("record {id} for its ceder"))?;
+    }
+    Ok(())
+}
+
+/// Every engagement, every record for every asker, every history.
+fn everything<A: Side, B: Side>(made: usize, left: &A, right: &B, seen: &Seen) -> Result<(), Difference> {
+    let (nobody, none) = (b"17X000000000000-".to_vec(), b"00000C".to_vec());
+    for actor in seen.actors.iter().chain([&nobody]) {
+        let text = || actor.escape_ascii().to_string();
+        for category in seen.categories.iter().chain([&none]) {
+            for day in &seen.days {
+                for step in 0..=50 {
+                    let answers =
+                        (left.engagement(actor, category, *day, step), right.engagement(actor, category, *day, step));
+                    same(made, answers.0, answers.1, || {
+                        format!("engagement {} {} day {day} step {step}", text(), category.escape_ascii())
+                    })?;
+                }
+            }
+        }
+        for id in 0..seen.records.len() as u32 + 2 {
+            let answers = (left.record(actor, id), right.record(actor, id));
+            same(made, answers.0, answers.1, || format!("record {id} for {}", text()))?;
+        }
+        let mut lengths = vec![0, 1, 256, 300];
+        if let Ok(count) = left.history(actor, &mut [0; 256]) {
+            lengths.extend([count.saturating_sub(1), count, count + 1]);
+        }
+        for length in lengths {
+            let call = Call::History { actor: actor.clone(), length };
+            let answers = (make(&mut left.clone(), &call), make(&mut right.clone(), &call));
+            same(made, answers.0, answers.1, || call.to_string())?;
+        }
+    }
+    Ok(())
+}
+
+/// A shorter list that still differs: calls are left out, first many at once, as long as the rest differs.
+pub fn shortened<A: Side, B: Side>(calls: &[Call]) -> Vec<Call> {
+    let differs = |calls: &[Call]| run::<A, B>(calls, &mut Tally::default()).err();
+    let made = differs(calls).map_or(calls.len(), |difference| difference.made);
+    let (mut short, mut width) = (calls[..made].to_vec(), made.div_ceil(2).max(1));
+    loop {
+        let mut at = 0;
+        while at < short.len() {
+            let mut fewer = short.clone();
+            fewer.drain(at..short.len().min(at + width));
+            match differs(&fewer) {
+                Some(_) => short = fewer,
+                None => at += width,
+            }
+        }
+        if width == 1 {
+            return short;
+        }
+        width = width.div_ceil(2);
+    }
+}

@@ -1,0 +1,99 @@
+//! How often each answer, each refusal and each change of a status was met.
+
+use std::collections::BTreeMap;
+
+use crate::calls::{Answer, Kind};
+
+/// The refusals that each call can give, by document 01's "Order".
+const REFUSALS: [(Kind, &[u32]); 10] = [
+    (Kind::Advance, &[10, 38]),
+    (Kind::EnrolActor, &[9, 10, 37, 36]),
+    (Kind::EnrolCategory, &[9, 37, 36]),
+    (Kind::Load, &[10, 22, 23, 39, 37, 36]),
+    (Kind::File, &[1, 2, 3, 4, 5, 6, 7, 8, 20, 21, 22, 23, 24, 25, 26, 27, 28, 29, 30, 31, 32, 33, 34, 35, 36]),
+    (Kind::Engagement, &[22, 23, 10]),
+    (Kind::Record, &[22, 40, 41]),
+    (Kind::History, &[22, 36]),
+    (Kind::Read, &[1, 2, 3, 4, 5, 6, 7, 8]),
+    (Kind::Write, &[9, 10, 8, 36]),
+];
+
+/// Steps of the day of an accepted filing, and whether its first counted step is 0.
+const DAYS: [(usize, bool); 6] = [(46, true), (46, false), (48, true), (48, false), (50, true), (50, false)];
+
+/// The changes that rules 1 to 3 make; a record is born from nothing, here '-'.
+const CHANGES: [(char, char); 6] = [('-', 'C'), ('-', 'V'), ('C', 'S'), ('C', 'A'), ('V', 'O'), ('V', 'P')];
+
+#[derive(Default)]
+pub struct Tally {
+    /// By call and refusal, 0 for an accepted call.
+    answers: BTreeMap<(Kind, u32), u64>,
+    changes: BTreeMap<(char, char), u64>,
+    days: BTreeMap<(usize, bool), u64>,
+}
+
+impl Tally {
+    pub fn answer(&mut self, kind: Kind, answer: &Answer) {
+        let number = match answer {
+            Answer::No { number, .. } | Answer::NoButWrote { number, .. } => *number,
+            _ => 0,
+        };
+        self.refusal(kind, number);
+    }
+
+    pub fn refusal(&mut self, kind: Kind, number: u32) {
+        *self.answers.entry((kind, number)).or_default() += 1;
+    }
+
+    /// An accepted filing for a day of so many steps.
+    pub fn filed(&mut self, steps: usize, from: u32) {
+        *self.days.entry((steps, from == 0)).or_default() += 1;
+    }
+
+    pub fn change(&mut self, from: char, to: char) {
+        *self.changes.entry((from, to)).or_default() += 1;
+    }
+
+    pub fn calls(&self) -> u64 {
+        self.answers.values().sum()
+    }
+
+    /// Prints all counts and gives what was not met though it can be, and what was met though document 01 doesn't have it.
+    pub fn print(&self) -> Vec<String> {
+        let mut wrong = Vec::new();
+        for (kind, refusals) in REFUSALS {
+            let count = |number: u32| self.answers.get(&(kind, number)).copied().unwrap_or(0);
+            print!("{kind:?}: accepted {}; refused", count(0));
+            for number in refusals {
+                print!(" {number}: {}", count(*number));
+            }
+            println!();
+            let missing = [0].iter().chain(refusals).filter(|number| count(**number) == 0);
+            wrong.extend(missing.map(|number| format!("{kind:?} never answered {number}")));
+            let others = self.answers.keys().filter(|(k, n)| *k == kind && *n != 0 && !refusals.contains(n));
+            wrong.extend(others.map(|(_, number)| format!("{kind:?} answered {number}, which it can't")));
+        }
+        print!("accepted filings by steps of the day:");
+        for (steps, whole) in DAYS {
+            let count = self.days.get(&(steps, whole)).copied().unwrap_or(0);
+            let from = if whole { "from step 0" } else { "from a later one" };
+            print!(" {steps} {from} {count}");
+            if count == 0 {
+                wrong.push(format!("no filing was accepted for a day of {steps} steps {from}"));
+            }
+        }
+        println!();
+        print!("statuses:");
+        for (from, to) in CHANGES {
+            let count = self.changes.get(&(from, to)).copied().unwrap_or(0);
+            print!(" {from} to {to} {count}");
+            if count == 0 {
+                wrong.push(format!("no status went from {from} to {to}"));
+            }
+        }
+        println!();
+        let others = self.changes.keys().filter(|change| !CHANGES.contains(change));
+        wrong.extend(others.map(|(from, to)| format!("a status went from {from} to {to}")));
+        wrong
+    }
+}

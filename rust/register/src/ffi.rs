@@ -1,0 +1,312 @@
+//! The static library `register_c` as C sees it: its structs, its functions, and a safe function for each one that takes a slice.
+//! The only `unsafe` of this package is here. What the functions do is proved; that these declarations are those of
+//! `crates/register_c` is not, and the sizes and places below and the differential test stand for it.
+#![allow(unsafe_code)]
+
+use core::mem::{offset_of, size_of};
+
+/// A day and the minutes elapsed since its local midnight.
+#[repr(C)]
+#[derive(Clone, Copy, PartialEq, Eq)]
+pub struct Clock {
+    pub day: u32,
+    pub minute: u32,
+}
+
+/// A code and a contract.
+#[repr(C)]
+#[derive(Clone, Copy, PartialEq, Eq)]
+pub struct Actor {
+    pub code: [u8; 16],
+    pub first: u32,
+    pub last: u32,
+}
+
+#[repr(C)]
+#[derive(Clone, Copy, PartialEq, Eq)]
+pub struct Actors {
+    pub count: u32,
+    pub entries: [Actor; 8],
+}
+
+/// Five digits, then C or 0.
+#[repr(C)]
+#[derive(Clone, Copy, PartialEq, Eq)]
+pub struct Category {
+    pub text: [u8; 6],
+}
+
+#[repr(C)]
+#[derive(Clone, Copy, PartialEq, Eq)]
+pub struct Categories {
+    pub count: u32,
+    pub entries: [Category; 4],
+}
+
+/// Actor, category and day of each load as one number, and its approved power.
+#[repr(C)]
+#[derive(Clone, Copy, PartialEq, Eq)]
+pub struct Loads {
+    pub count: u32,
+    pub keys: [u32; 64],
+    pub approved: [u16; 64],
+}
+
+#[repr(C)]
+#[derive(Clone, Copy, PartialEq, Eq)]
+pub struct Records {
+    pub count: u32,
+    pub statuses: [u8; 256],
+    pub ids: [u32; 256],
+}
+
+/// The part of a register that goes by value.
+#[repr(C)]
+#[derive(Clone, Copy, PartialEq, Eq)]
+pub struct Head {
+    pub clock: Clock,
+    pub actors: Actors,
+    pub categories: Categories,
+    pub loads: Loads,
+    pub records: Records,
+}
+
+/// Number and place of the refusal, 0 and 0 where there is none; how many values there are, which of them is a status's letter (3: none),
+/// and the values.
+#[repr(C)]
+#[derive(Clone, Copy)]
+pub struct Said {
+    pub number: u32,
+    pub place: u32,
+    pub count: u32,
+    pub letter: u32,
+    pub values: [u32; 3],
+}
+
+/// The head that a call leaves, and what it says.
+#[repr(C)]
+pub struct Turn {
+    pub head: Head,
+    pub said: Said,
+}
+
+/// A record that was asked for; zeros beside a refusal.
+#[repr(C)]
+pub struct RecordShown {
+    pub number: u32,
+    pub place: u32,
+    pub day: u32,
+    pub steps: u32,
+    pub from: u32,
+    pub until: u32,
+    pub powers: [u16; 50],
+    pub submitter: [u8; 16],
+    pub ceder: [u8; 16],
+    pub acquirer: [u8; 16],
+    pub category: [u8; 6],
+    pub status: u8,
+}
+
+/// A notification file that was read; zeros beside a refusal.
+#[repr(C)]
+pub struct FileRead {
+    pub number: u32,
+    pub place: u32,
+    pub day: u32,
+    pub steps: u32,
+    pub powers: [u16; 50],
+    pub ceder: [u8; 16],
+    pub acquirer: [u8; 16],
+    pub category: [u8; 6],
+}
+
+/// Number and place of the refusal, 0 and 0 where there is none; then the lengths of name and body.
+#[repr(C)]
+pub struct FileWritten {
+    pub number: u32,
+    pub place: u32,
+    pub name: usize,
+    pub body: usize,
+}
+
+/// The eight digits of a date.
+#[repr(C)]
+pub struct DateText {
+    pub digits: [u8; 8],
+}
+
+/// The records' columns that the caller lends.
+pub type Keys = [u32; 256];
+pub type Marks = [[u8; 4]; 256];
+pub type Rows = [[u16; 50]; 256];
+/// The loads' powers.
+pub type LoadRows = [[u16; 50]; 64];
+
+// Sizes and places as c/register.h asserts them too: a field that is moved on one side alone is found when either is compiled.
+const _: () = {
+    assert!(size_of::<Clock>() == 8 && size_of::<Actor>() == 24 && size_of::<Actors>() == 196);
+    assert!(size_of::<Category>() == 6 && size_of::<Categories>() == 28);
+    assert!(size_of::<Loads>() == 388 && offset_of!(Loads, approved) == 260);
+    assert!(size_of::<Records>() == 1284 && offset_of!(Records, ids) == 260);
+    assert!(size_of::<Head>() == 1904 && offset_of!(Head, actors) == 8 && offset_of!(Head, categories) == 204);
+    assert!(offset_of!(Head, loads) == 232 && offset_of!(Head, records) == 620);
+    assert!(size_of::<Said>() == 28 && offset_of!(Said, values) == 16);
+    assert!(size_of::<Turn>() == 1932 && offset_of!(Turn, said) == 1904);
+    assert!(size_of::<RecordShown>() == 180 && offset_of!(RecordShown, powers) == 24);
+    assert!(offset_of!(RecordShown, submitter) == 124 && offset_of!(RecordShown, ceder) == 140);
+    assert!(offset_of!(RecordShown, acquirer) == 156 && offset_of!(RecordShown, category) == 172);
+    assert!(offset_of!(RecordShown, status) == 178);
+    assert!(size_of::<FileRead>() == 156 && offset_of!(FileRead, powers) == 16 && offset_of!(FileRead, ceder) == 116);
+    assert!(offset_of!(FileRead, acquirer) == 132 && offset_of!(FileRead, category) == 148);
+    assert!(size_of::<FileWritten>() == 8 + 2 * size_of::<usize>() && offset_of!(FileWritten, name) == 8);
+    assert!(size_of::<DateText>() == 8);
+    assert!(size_of::<Keys>() == 1024 && size_of::<Marks>() == 1024);
+    assert!(size_of::<Rows>() == 25600 && size_of::<LoadRows>() == 6400);
+};
+
+// SAFETY: these are the functions of crates/register_c/src with their types. A reference to an array is one pointer there, a
+// slice a pointer and a length. The `safe` ones take no slice, so that every argument that Rust lets pass is a good one: they are
+// total, and write nothing but their result and what they are lent as `&mut`.
+unsafe extern "C" {
+    pub safe fn register_fresh() -> Head;
+    fn register_enrol_actor(head: Head, code: *const u8, code_len: usize, first: u32, last: u32) -> Turn;
+    fn register_enrol_category(head: Head, text: *const u8, text_len: usize) -> Turn;
+    fn register_load(
+        head: Head, loads: &mut LoadRows, actor: *const u8, actor_len: usize, category: *const u8, category_len: usize,
+        day: u32, approved: u32, powers: *const u32, powers_len: usize,
+    ) -> Turn;
+    fn register_file(
+        head: Head, keys: &mut Keys, marks: &mut Marks, rows: &mut Rows, loads: &LoadRows, submitter: *const u8,
+        submitter_len: usize, name: *const u8, name_len: usize, body: *const u8, body_len: usize,
+    ) -> Turn;
+    pub safe fn register_advance(head: Head, day: u32, minute: u32) -> Turn;
+    fn register_engagement(
+        head: Head, keys: &Keys, marks: &Marks, rows: &Rows, loads: &LoadRows, actor: *const u8, actor_len: usize,
+        category: *const u8, category_len: usize, day: u32, step: u32,
+    ) -> Said;
+    fn register_record(
+        head: Head, keys: &Keys, marks: &Marks, rows: &Rows, asker: *const u8, asker_len: usize, id: u32,
+    ) -> RecordShown;
+    fn register_history(
+        head: Head, keys: &Keys, actor: *const u8, actor_len: usize, ids: *mut u32, ids_len: usize,
+    ) -> Said;
+    fn notification_read(name: *const u8, name_len: usize, body: *const u8, body_len: usize) -> FileRead;
+    fn notification_write(n: FileRead, name: *mut u8, name_len: usize, body: *mut u8, body_len: usize) -> FileWritten;
+    fn calendar_day(date: *const u8, date_len: usize) -> u32;
+    pub safe fn calendar_date(day: u32) -> DateText;
+    pub safe fn calendar_steps(day: u32) -> u32;
+}
+
+#[inline]
+pub fn enrol_actor(head: &Head, code: &[u8], first: u32, last: u32) -> Turn {
+    // SAFETY: the pointer and the length are those of one slice, which lives past the call and is only read.
+    unsafe { register_enrol_actor(*head, code.as_ptr(), code.len(), first, last) }
+}
+
+#[inline]
+pub fn enrol_category(head: &Head, text: &[u8]) -> Turn {
+    // SAFETY: the pointer and the length are those of one slice, which lives past the call and is only read.
+    unsafe { register_enrol_category(*head, text.as_ptr(), text.len()) }
+}
+
+#[inline]
+pub fn load(
+    head: &Head, loads: &mut LoadRows, actor: &[u8], category: &[u8], day: u32, approved: u32, powers: &[u32],
+) -> Turn {
+    // SAFETY: each pointer stands with the length of its own slice; the slices live past the call and are only read. `loads` is
+    // borrowed alone.
+    unsafe {
+        register_load(
+            *head,
+            loads,
+            actor.as_ptr(),
+            actor.len(),
+            category.as_ptr(),
+            category.len(),
+            day,
+            approved,
+            powers.as_ptr(),
+            powers.len(),
+        )
+    }
+}
+
+#[inline]
+#[allow(clippy::too_many_arguments)]
+pub fn file(
+    head: &Head, keys: &mut Keys, marks: &mut Marks, rows: &mut Rows, loads: &LoadRows, submitter: &[u8], name: &[u8],
+    body: &[u8],
+) -> Turn {
+    // SAFETY: each pointer stands with the length of its own slice; the slices live past the call and are only read. The columns are
+    // borrowed alone.
+    unsafe {
+        register_file(
+            *head,
+            keys,
+            marks,
+            rows,
+            loads,
+            submitter.as_ptr(),
+            submitter.len(),
+            name.as_ptr(),
+            name.len(),
+            body.as_ptr(),
+            body.len(),
+        )
+    }
+}
+
+#[inline]
+#[allow(clippy::too_many_arguments)]
+pub fn engagement(
+    head: &Head, keys: &Keys, marks: &Marks, rows: &Rows, loads: &LoadRows, actor: &[u8], category: &[u8], day: u32,
+    step: u32,
+) -> Said {
+    // SAFETY: each pointer stands with the length of its own slice; the slices live past the call and are only read.
+    unsafe {
+        register_engagement(
+            *head,
+            keys,
+            marks,
+            rows,
+            loads,
+            actor.as_ptr(),
+            actor.len(),
+            category.as_ptr(),
+            category.len(),
+            day,
+            step,
+        )
+    }
+}
+
+#[inline]
+pub fn record(head: &Head, keys: &Keys, marks: &Marks, rows: &Rows, asker: &[u8], id: u32) -> RecordShown {
+    // SAFETY: the pointer and the length are those of one slice, which lives past the call and is only read.
+    unsafe { register_record(*head, keys, marks, rows, asker.as_ptr(), asker.len(), id) }
+}
+
+#[inline]
+pub fn history(head: &Head, keys: &Keys, actor: &[u8], ids: &mut [u32]) -> Said {
+    // SAFETY: each pointer stands with the length of its own slice; both live past the call, `actor` is only read and `ids` is borrowed
+    // alone.
+    unsafe { register_history(*head, keys, actor.as_ptr(), actor.len(), ids.as_mut_ptr(), ids.len()) }
+}
+
+#[inline]
+pub fn read(name: &[u8], body: &[u8]) -> FileRead {
+    // SAFETY: each pointer stands with the length of its own slice; the slices live past the call and are only read.
+    unsafe { notification_read(name.as_ptr(), name.len(), body.as_ptr(), body.len()) }
+}
+
+#[inline]
+pub fn write(n: FileRead, name: &mut [u8], body: &mut [u8]) -> FileWritten {
+    // SAFETY: each pointer stands with the length of its own slice; both live past the call and are borrowed alone.
+    unsafe { notification_write(n, name.as_mut_ptr(), name.len(), body.as_mut_ptr(), body.len()) }
+}
+
+#[inline]
+pub fn day_of(date: &[u8]) -> u32 {
+    // SAFETY: the pointer and the length are those of one slice, which lives past the call and is only read.
+    unsafe { calendar_day(date.as_ptr(), date.len()) }
+}

@@ -1,0 +1,211 @@
+//! The reserve exchange register for Rust: a safe face over the proved static library `register_c`.
+//!
+//! A [`Register`] holds everything itself, in about 36 KB and without a heap. Each call answers a result or one [`Refusal`] of
+//! document 01, and a refused call changes nothing. What the calls do is proved; this package only passes arguments and answers on.
+//!
+//! Codes, categories, names and bodies are any bytes: the calls judge their form, so `&str`, `&[u8]`, [`Code`] and [`Category`] all
+//! serve.
+//!
+//! # Example
+//!
+//! Two actors exchange 40 MW of one category on the day after the clock's. The exchange moves power when both have filed it.
+//!
+//! ```
+//! use register::{Day, Filed, Notification, Refusal, Register, Status, BODY_LENGTH, NAME_LENGTH};
+//!
+//! let (north, south) = ("17X100A100R0000L", "17X100A100R0001J");
+//! let (today, tomorrow) = (Day::of("20210120").unwrap(), Day::of("20210121").unwrap());
+//!
+//! let mut register = Register::new();
+//! register.advance(today, 600)?;
+//! register.enrol_actor(north, today, tomorrow)?;
+//! register.enrol_actor(south, today, tomorrow)?;
+//! register.enrol_category("13120")?;
+//! register.load(north, "13120", tomorrow, 100, &[60; 48])?;
+//! register.load(south, "13120", tomorrow, 100, &[0; 48])?;
+//!
+//! let exchange = Notification::new(north.parse()?, south.parse()?, "13120".parse()?, tomorrow, &[40; 48]);
+//! let (mut name, mut body) = ([0; NAME_LENGTH], [0; BODY_LENGTH]);
+//! let (name_length, body_length) = exchange.write(&mut name, &mut body)?;
+//! let (name, body) = (&name[..name_length], &body[..body_length]);
+//! assert_eq!(name, b"NER_17X100A100R0000L_17X100A100R0001J_20210121_13120.csv");
+//!
+//! assert_eq!(register.file(north, name, body)?, Filed { id: 1, status: Status::Created, from: 0 });
+//! assert_eq!(register.engagement(south, "13120", tomorrow, 0)?, 0);
+//! assert_eq!(register.file(south, name, body)?, Filed { id: 2, status: Status::Validated, from: 0 });
+//! assert_eq!(register.engagement(north, "13120", tomorrow, 0)?, 20);
+//! assert_eq!(register.engagement(south, "13120", tomorrow, 0)?, 40);
+//!
+//! let record = register.record(south, 1)?;
+//! assert_eq!((record.status, record.from, record.until), (Status::Answered, 0, 48));
+//! let mut ids = [0; 256];
+//! let count = register.history(north, &mut ids)?;
+//! assert_eq!(&ids[..count], [1, 2]);
+//!
+//! let refused = register.advance(today, 599).unwrap_err();
+//! assert_eq!(refused, Refusal { number: 38, place: 0 });
+//! assert_eq!(refused.to_string(), "refusal 38: the clock would go back");
+//! # Ok::<(), Refusal>(())
+//! ```
+#![no_std]
+#![deny(missing_docs, unsafe_code)]
+
+mod day;
+mod ffi;
+mod notification;
+mod record;
+mod refusal;
+
+use core::fmt;
+
+pub use day::{Day, NoDate};
+pub use notification::{Category, Code, Notification, BODY_LENGTH, NAME_LENGTH, STEPS};
+pub use record::{Filed, Record, Status};
+pub use refusal::Refusal;
+
+impl Refusal {
+    #[inline]
+    fn unless_accepted(number: u32, place: u32) -> Result<(), Refusal> {
+        match number {
+            0 => Ok(()),
+            _ => Err(Refusal { number, place }),
+        }
+    }
+}
+
+impl ffi::Said {
+    /// The values, or the refusal.
+    #[inline]
+    fn accepted(&self) -> Result<[u32; 3], Refusal> {
+        Refusal::unless_accepted(self.number, self.place)?;
+        Ok(self.values)
+    }
+}
+
+/// A register: its clock, 8 places for actors, 4 for categories, 64 for loads, 256 for records.
+///
+/// Two registers are equal if they hold the same, as they do after the same calls. A clone is a register of its own.
+#[derive(Clone, PartialEq, Eq)]
+pub struct Register {
+    head: ffi::Head,
+    keys: ffi::Keys,
+    marks: ffi::Marks,
+    rows: ffi::Rows,
+    loads: ffi::LoadRows,
+}
+
+/// The clock and how much there is of everything.
+impl fmt::Debug for Register {
+    fn fmt(&self, f: &mut fmt::Formatter<'_>) -> fmt::Result {
+        let ffi::Head { clock, actors, categories, loads, records } = &self.head;
+        f.debug_struct("Register")
+            .field("day", &Day(clock.day))
+            .field("minute", &clock.minute)
+            .field("actors", &actors.count)
+            .field("categories", &categories.count)
+            .field("loads", &loads.count)
+            .field("records", &records.count)
+            .finish()
+    }
+}
+
+impl Default for Register {
+    fn default() -> Self {
+        Register::new()
+    }
+}
+
+impl Register {
+    /// A fresh register: nothing is enrolled, loaded or filed, and the clock stands at day 0, minute 0.
+    pub fn new() -> Register {
+        Register {
+            head: ffi::register_fresh(),
+            keys: [0; 256],
+            marks: [[0; 4]; 256],
+            rows: [[0; STEPS]; 256],
+            loads: [[0; STEPS]; 64],
+        }
+    }
+
+    /// Takes over the head that an accepted call leaves; a refused one leaves the head that it was given.
+    #[inline]
+    fn take(&mut self, turn: &ffi::Turn) -> Result<[u32; 3], Refusal> {
+        let values = turn.said.accepted()?;
+        self.head = turn.head;
+        Ok(values)
+    }
+
+    /// Moves the clock to a day and an elapsed minute; the same moment is accepted. Refused by 10 and 38.
+    pub fn advance(&mut self, day: Day, minute: u32) -> Result<(), Refusal> {
+        let turn = ffi::register_advance(self.head, day.0, minute);
+        self.take(&turn).map(|_| ())
+    }
+
+    /// Enrols an actor by its EIC code, with a contract from a first to a last day, both included, and gives how many actors there now
+    /// are. Refused by 9, 10, 37 and 36.
+    pub fn enrol_actor(&mut self, code: impl AsRef<[u8]>, first: Day, last: Day) -> Result<u32, Refusal> {
+        let turn = ffi::enrol_actor(&self.head, code.as_ref(), first.0, last.0);
+        self.take(&turn).map(|values| values[0])
+    }
+
+    /// Enrols a category and gives how many categories there now are. Refused by 9, 37 and 36.
+    pub fn enrol_category(&mut self, category: impl AsRef<[u8]>) -> Result<u32, Refusal> {
+        let turn = ffi::enrol_category(&self.head, category.as_ref());
+        self.take(&turn).map(|values| values[0])
+    }
+
+    /// Gives one actor, category and day an approved power and one loaded power for each step, none above the approved one; answers how
+    /// many loads there now are. Refused by 10, 22, 23, 39, 37 and 36.
+    pub fn load(
+        &mut self, actor: impl AsRef<[u8]>, category: impl AsRef<[u8]>, day: Day, approved: u32, powers: &[u32],
+    ) -> Result<u32, Refusal> {
+        let (actor, category) = (actor.as_ref(), category.as_ref());
+        let turn = ffi::load(&self.head, &mut self.loads, actor, category, day.0, approved, powers);
+        self.take(&turn).map(|values| values[0])
+    }
+
+    /// Files a notification: the submitter's code, the file's name and its body. An accepted filing makes one record. Refused by 1 to 8,
+    /// then 20 to 36.
+    pub fn file(
+        &mut self, submitter: impl AsRef<[u8]>, name: impl AsRef<[u8]>, body: impl AsRef<[u8]>,
+    ) -> Result<Filed, Refusal> {
+        let (submitter, name, body) = (submitter.as_ref(), name.as_ref(), body.as_ref());
+        let Register { head, keys, marks, rows, loads } = self;
+        let turn = ffi::file(head, keys, marks, rows, loads, submitter, name, body);
+        let [id, letter, from] = self.take(&turn)?;
+        Ok(Filed { id, status: Status::known(letter as u8), from })
+    }
+
+    /// An actor's own engagement at a step, in MW: loaded power, plus what it acquires, less what it cedes. Refused by 22, 23 and 10.
+    pub fn engagement(
+        &self, actor: impl AsRef<[u8]>, category: impl AsRef<[u8]>, day: Day, step: u32,
+    ) -> Result<u32, Refusal> {
+        let (actor, category) = (actor.as_ref(), category.as_ref());
+        let Register { head, keys, marks, rows, loads } = self;
+        let said = ffi::engagement(head, keys, marks, rows, loads, actor, category, day.0, step);
+        said.accepted().map(|values| values[0])
+    }
+
+    /// A record by its id, for an actor who is ceder or acquirer of it. Refused by 22, 40 and 41.
+    pub fn record(&self, asker: impl AsRef<[u8]>, id: u32) -> Result<Record, Refusal> {
+        let shown = ffi::record(&self.head, &self.keys, &self.marks, &self.rows, asker.as_ref(), id);
+        Refusal::unless_accepted(shown.number, shown.place)?;
+        let notification = Notification {
+            ceder: Code(shown.ceder),
+            acquirer: Code(shown.acquirer),
+            category: Category(shown.category),
+            day: Day(shown.day),
+            steps: shown.steps,
+            powers: shown.powers,
+        };
+        let (submitter, status) = (Code(shown.submitter), Status::known(shown.status));
+        Ok(Record { submitter, notification, status, from: shown.from, until: shown.until })
+    }
+
+    /// Puts the ids of all records of which the actor is ceder or acquirer into the lent buffer, each once, and gives how many they are.
+    /// The rest of the buffer, and all of it beside a refusal, is left as it was. Refused by 22 and 36; a buffer of 256 is enough.
+    pub fn history(&self, actor: impl AsRef<[u8]>, ids: &mut [u32]) -> Result<usize, Refusal> {
+        let said = ffi::history(&self.head, &self.keys, actor.as_ref(), ids);
+        said.accepted().map(|values| values[0] as usize)
+    }
+}
