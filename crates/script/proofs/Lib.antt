@@ -6,3 +6,5 @@ pub mod Powers
 pub mod LineKinds
 pub mod LoadLines
 pub mod Letters
+pub mod Decimals
+pub mod AnswerLines

@@ -1,0 +1,21 @@
+use borrow.Author.Needs.{needs}
+use Rattle.register_script.proofs.lines.flush.Statement.{statement}
+use Rattle.register_script.proofs.lines.flush.Tie as tie
+use Rattle.register_script.proofs.lines.flush.Reads as reads
+use Rattle.register_script.proofs.lines.flush.Lts as lts
+use Rattle.io.proofs.write_all.Reads as write-all-reads
+
+-- src/lines.rt:40:34
+slice-aggregate-write-all : tie.Need-slice-aggregate-write-all
+slice-aggregate-write-all c = ?
+
+-- src/lines.rt:40:5
+write-all-requires : tie.Need-write-all-requires
+write-all-requires c κs = search needs
+
+-- src/lines.rt:37:1
+returns : tie.Need-returns
+returns c = search needs
+
+pub flush-spec : {M : Type 1} → statement M
+flush-spec = tie.close (tie.spec slice-aggregate-write-all write-all-requires returns)

@@ -1,0 +1,149 @@
+// Standard input by blocks: all lines of a block are answered before more input is awaited.
+ghost use Prim.Native.Nat.{_≤_};
+ghost use lib.ListN.{length};
+use crate::lines::answer_line;
+use crate::lines::flush;
+use crate::lines::line_end;
+use libc::STDIN_FILENO;
+use register::Head;
+use std::num::wrapping_add_u64;
+
+// The most bytes of a line, and one more: what is kept of a line whose end hasn't come yet. A line that is too long stays so when
+// the rest of it is forgotten.
+const KEPT: usize = 513;
+
+// The register's head after the lines of a block, how many lines there were so far, and where the first line that has no LF yet
+// starts.
+struct Block {
+    head: Head,
+    number: u64,
+    at: usize,
+}
+
+// Answers all lines of a block that have their LF.
+fn answer_block(
+    head: Head,
+    keys: &mut [u32; 256],
+    marks: &mut [[u8; 4]; 256],
+    rows: &mut [[u16; 50]; 256],
+    loads: &mut [[u16; 50]; 64],
+    powers: &mut [u32; 256],
+    body: &mut [u8],
+    number: u64,
+    block: &[u8],
+    output: &mut [u8],
+) -> Block
+    ensures { λ r. ⌜ r .at ≤ length (now (block .entry)) ⌝ }
+{
+    let mut head = head;
+    let mut number = number;
+    let mut at: usize = 0;
+    let mut out: usize = 0;
+    while at < block.len() {
+        let end = line_end(block, at);
+        if end == block.len() {
+            break;
+        }
+        number = wrapping_add_u64(number, 1);
+        let after = answer_line(
+            head,
+            keys,
+            marks,
+            rows,
+            loads,
+            powers,
+            body,
+            number,
+            &block[at..end],
+            output,
+            out,
+        );
+        head = after.head;
+        out = after.out;
+        at = end + 1;
+    }
+    flush(output, out);
+    Block { head, number, at }
+}
+
+// Moves the bytes of a line whose end hasn't come yet to the front, and answers how many they are.
+fn keep(input: &mut [u8], from: usize, to: usize) -> usize
+    requires { ⌜ (from ≤ to) × (to ≤ length (now input)) ⌝ }
+    ensures { λ r. ⌜ r ≤ 513 ⌝ }
+{
+    let mut n: usize = 0;
+    while n < KEPT {
+        if to - from <= n {
+            return n;
+        }
+        input[n] = input[from + n];
+        n += 1;
+    }
+    n
+}
+
+// Reads more input behind what is held, and answers where it ends.
+fn read_more(input: &mut [u8], held: usize) -> usize
+    requires { ⌜ held ≤ length (now input) ⌝ }
+    ensures { λ r. ⌜ (held ≤ r) × (r ≤ length (now (input .exit))) ⌝ }
+{
+    let got = libc::read(STDIN_FILENO, &mut input[held..]);
+    held + io::count(got, &input[held..])
+}
+
+// Answers the input to its end. A proved loop has to end, and nothing says that input does: so the turns are counted down from a
+// number that no run uses up.
+pub fn run(
+    keys: &mut [u32; 256],
+    marks: &mut [[u8; 4]; 256],
+    rows: &mut [[u16; 50]; 256],
+    loads: &mut [[u16; 50]; 64],
+    powers: &mut [u32; 256],
+    body: &mut [u8],
+    input: &mut [u8],
+    output: &mut [u8],
+) {
+    let mut head = Head::fresh();
+    let mut number: u64 = 0;
+    let mut held: usize = 0;
+    let mut turns = u64::MAX;
+    while turns > 0 {
+        turns -= 1;
+        let end = read_more(input, held);
+        if end == held {
+            break;
+        }
+        let block = answer_block(
+            head,
+            keys,
+            marks,
+            rows,
+            loads,
+            powers,
+            body,
+            number,
+            &input[..end],
+            output,
+        );
+        head = block.head;
+        number = block.number;
+        held = keep(input, block.at, end);
+    }
+    if held == 0 {
+        return;
+    }
+    let after = answer_line(
+        head,
+        keys,
+        marks,
+        rows,
+        loads,
+        powers,
+        body,
+        wrapping_add_u64(number, 1),
+        &input[..held],
+        output,
+        0,
+    );
+    flush(output, after.out);
+}
