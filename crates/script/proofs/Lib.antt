@@ -1,0 +1,2 @@
+-- What holds of the lines.
+pub mod Examples

@@ -1,0 +1,115 @@
+-- What a line of the script asks (document 01, "The script program").
+use mathlib.Core.Bool.{Bool, cond, _&&_}
+use mathlib.Core.List.{List, [], _∷_, map}
+use Prim.Native.Nat.{ℕ}
+use lib.Dec.{leb, eqb}
+use lib.ListN.{length}
+use Rattle.lists.specs.Searches.{every}
+use Rattle.notification.specs.Reading.{onto}
+use Rattle.script.specs.Numbers.{isNumber, valueOf, isDay, dayIn}
+
+-- the calls that lines ask for; a line of no known form, or over its length, is unknown
+pub data Asked : Type 0 where
+  advance : (day minute : ℕ) → Asked
+  enrolActor : (code : List ℕ) → (first last : ℕ) → Asked
+  enrolCategory : (text : List ℕ) → Asked
+  load : (actor category : List ℕ) → (day approved : ℕ) → (powers : List ℕ) → Asked
+  file : (submitter name : List ℕ) → Asked
+  engagement : (actor category : List ℕ) → (day step : ℕ) → Asked
+  recordOf : (asker : List ℕ) → (id : ℕ) → Asked
+  unknown : Asked
+
+-- "lines of at most 512 bytes"
+abbrev pub lineMost : ℕ
+lineMost = 512
+
+-- "fields in a fixed order parted by commas, no quoting"
+abbrev pub comma : ℕ
+comma = 44
+
+unfoldable pub fields : List ℕ → List (List ℕ)
+fields [] = [] ∷ []
+fields (b ∷ s) = onto (eqb b comma) b (fields s)
+
+abbrev pub known : Bool → Asked → Asked
+known good asked = cond good asked unknown
+
+-- "in a fixed order": one field and then the others, no field any more, one field or more; another number of fields is unknown
+abbrev pub field : (List ℕ → List (List ℕ) → Asked) → List (List ℕ) → Asked
+field f [] = unknown
+field f (x ∷ fs) = f x fs
+
+abbrev pub end : Asked → List (List ℕ) → Asked
+end asked [] = asked
+end asked (x ∷ fs) = unknown
+
+abbrev pub more : (List (List ℕ) → Asked) → List (List ℕ) → Asked
+more f [] = unknown
+more f (x ∷ fs) = f (x ∷ fs)
+
+-- `T,date,minute`
+unfoldable pub advanceIn : List (List ℕ) → Asked
+advanceIn =
+    field (λ date. field (λ minute. end (known (isDay date && isNumber minute) (advance (dayIn date) (valueOf minute)))))
+
+-- `A,code,first,last`
+unfoldable pub enrolIn : List (List ℕ) → Asked
+enrolIn =
+    field (λ code. field (λ first. field (λ last. end (known (isDay first && isDay last) (enrolActor code (dayIn first) (dayIn last))))))
+
+-- `C,category`
+unfoldable pub categoryIn : List (List ℕ) → Asked
+categoryIn = field (λ text. end (enrolCategory text))
+
+-- `L,actor,category,date,approved,` then one power or more
+unfoldable pub loadIn : List (List ℕ) → Asked
+loadIn =
+    field (λ actor. field (λ category. field (λ date. field (λ approved. more (λ powers.
+    known (isDay date && isNumber approved && every isNumber powers)
+    (load actor category (dayIn date) (valueOf approved) (map valueOf powers)))))))
+
+-- `F,submitter,name`
+unfoldable pub fileIn : List (List ℕ) → Asked
+fileIn = field (λ submitter. field (λ name. end (file submitter name)))
+
+-- `E,actor,category,date,step`
+unfoldable pub engagementIn : List (List ℕ) → Asked
+engagementIn =
+    field (λ actor. field (λ category. field (λ date. field (λ step. end
+    (known (isDay date && isNumber step) (engagement actor category (dayIn date) (valueOf step)))))))
+
+-- `R,asker,id`
+unfoldable pub recordIn : List (List ℕ) → Asked
+recordIn = field (λ asker. field (λ id. end (known (isNumber id) (recordOf asker (valueOf id)))))
+
+-- the first field is one letter, and 0 stands for a field that is none
+abbrev pub letterOf : List ℕ → ℕ
+letterOf [] = 0
+letterOf (b ∷ []) = b
+letterOf (b ∷ c ∷ s) = 0
+
+-- T, A, C, L, F, E or R says what the other fields are
+unfoldable pub byLetter : ℕ → List (List ℕ) → Asked
+byLetter b fs =
+    cond (eqb b 84) (advanceIn fs)
+    (cond (eqb b 65) (enrolIn fs)
+    (cond (eqb b 67) (categoryIn fs)
+    (cond (eqb b 76) (loadIn fs)
+    (cond (eqb b 70) (fileIn fs)
+    (cond (eqb b 69) (engagementIn fs)
+    (cond (eqb b 82) (recordIn fs) unknown))))))
+
+-- WHAT A LINE ASKS
+unfoldable pub lineOf : List ℕ → Asked
+lineOf line = known (leb (length line) lineMost) (field (λ letter. byLetter (letterOf letter)) (fields line))
+
+-- the powers of a load that a line asks for
+abbrev pub powersOf : Asked → List ℕ
+powersOf (advance day minute) = []
+powersOf (enrolActor code first last) = []
+powersOf (enrolCategory text) = []
+powersOf (load actor category day approved powers) = powers
+powersOf (file submitter name) = []
+powersOf (engagement actor category day step) = []
+powersOf (recordOf asker id) = []
+powersOf unknown = []

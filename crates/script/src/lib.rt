@@ -1,0 +1,2 @@
+// The script program's lines (document 01, "The script program"): a line to what it asks, and an answer to a line.
+pub mod reading;
