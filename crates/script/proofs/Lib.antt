@@ -1,2 +1,6 @@
 -- What holds of the lines.
 pub mod Examples
+pub mod Parting
+pub mod Numerals
+pub mod Powers
+pub mod LineKinds

@@ -5,7 +5,10 @@ use mathlib.Core.List.{List, [], _∷_}
 use Prim.Native.Nat.{ℕ, _+_, _-_, _≤_, _<_}
 use lib.Dec.{leb}
 use lib.ListN.{length, take, drop}
-use Rattle.script.specs.Lines.{Asked, advance, enrolActor, enrolCategory, load, file, engagement, recordOf, unknown, fields}
+use lib.Seq.{sets}
+use Rattle.lists.specs.Searches.{every}
+use Rattle.script.specs.Numbers.{numberEnd, isNumber, valueOf}
+use Rattle.script.specs.Lines.{Asked, advance, enrolActor, enrolCategory, load, file, engagement, recordOf, unknown, powersOf, fields}
 use Rattle.script.specs.declared.reading.Line.{Line}
 use Rattle.script.specs.declared.reading.Line.the-variants.{Advance, EnrolActor, EnrolCategory, Load, File, Engagement, RecordOf, Unknown}
 
@@ -45,3 +48,30 @@ Within n Unknown = 0 ≤ n
 -- the fields from a place on; none past the end of the line
 unfoldable pub fieldsFrom : List ℕ → ℕ → List (List ℕ)
 fieldsFrom line at = cond (leb at (length line)) (fields (drop at line)) []
+
+-- where the field that starts at a place ends: it is the line's span up to there, and the other fields start after it
+pub record FieldEnd (line : List ℕ) (from end : ℕ) : Type 0 where
+  pub after : from ≤ end
+  pub inside : end ≤ length line
+  pub parts : fieldsFrom line from ≡ cut line from end ∷ fieldsFrom line (end + 1)
+
+-- the number that a text is, and the least number that has six digits where it is none
+unfoldable pub numberIn : List ℕ → ℕ
+numberIn s = cond (isNumber s) (valueOf s) numberEnd
+
+-- how many numbers fields are, and 0 where one of them is none
+unfoldable pub countIn : List (List ℕ) → ℕ
+countIn fs = cond (every isNumber fs) (length fs) 0
+
+-- A LINE IS READ: what it says is what is asked; of the powers' places, those of the powers hold them and the rest are untouched; and
+-- its spans lie in the line
+pub record Read (line powers : List ℕ) (r : Line) (after : List ℕ) (a : Asked) : Type 0 where
+  pub says : asked line r after ≡ a
+  pub holds : after ≡ sets powers 0 (powersOf a)
+  pub within : Within (length line) r
+
+-- the same for a line without powers
+pub record ReadAs (line : List ℕ) (r : Line) (a : Asked) : Type 0 where
+  pub says : (powers : List ℕ) → asked line r powers ≡ a
+  pub none : powersOf a ≡ []
+  pub within : Within (length line) r

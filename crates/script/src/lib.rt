@@ -1,2 +1,3 @@
 // The script program's lines (document 01, "The script program"): a line to what it asks, and an answer to a line.
+mod fields;
 pub mod reading;

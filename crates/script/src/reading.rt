@@ -1,4 +1,16 @@
 // What a line of the script asks.
+ghost use mathlib.Core.Path.{_≡_};
+ghost use Prim.Native.Nat.{_≤_};
+ghost use lib.ListN.{length};
+ghost use Rattle.script.specs.Lines.{lineMost, advanceIn, enrolIn, categoryIn, loadIn, fileIn, engagementIn, recordIn, lineOf};
+ghost use Rattle.script.specs.Walking.{start, fieldsFrom, Read, ReadAs};
+use crate::fields::NUMBER_END;
+use crate::fields::count_in;
+use crate::fields::day_in;
+use crate::fields::field_end;
+use crate::fields::fill;
+use crate::fields::number_in;
+use calendar::DAYS;
 
 // A line read. Texts are spans of the line: the first starts at 2 and ends before its end; the next starts one after that. The last
 // text of a category's or a file's line goes to the end of the line.
@@ -18,3 +30,143 @@ pub enum Line {
     RecordOf(u32, u32),
     Unknown,
 }
+
+// `T,date,minute`
+fn advance(line: &[u8]) -> Line
+    requires { ⌜ (start ≤ length (now line)) × (length (now line) ≤ lineMost) ⌝ }
+    ensures { λ r. ⌜ ReadAs (now (line .entry)) r (advanceIn (fieldsFrom (now (line .entry)) start)) ⌝ }
+{
+    let n = line.len();
+    let first: usize = 2;
+    let date = field_end(line, first);
+    if n <= date {
+        return Line::Unknown;
+    }
+    let second = date + 1;
+    let end = field_end(line, second);
+    if end < n {
+        return Line::Unknown;
+    }
+    let day = day_in(&line[first..date]);
+    let minute = number_in(&line[second..end]);
+    if (day < DAYS) & (minute < NUMBER_END) {
+        Line::Advance(day, minute)
+    } else {
+        Line::Unknown
+    }
+}
+
+// `A,code,first,last`
+fn enrol(line: &[u8]) -> Line
+    requires { ⌜ (start ≤ length (now line)) × (length (now line) ≤ lineMost) ⌝ }
+    ensures { λ r. ⌜ ReadAs (now (line .entry)) r (enrolIn (fieldsFrom (now (line .entry)) start)) ⌝ }
+{
+    let n = line.len();
+    let code = field_end(line, 2);
+    if n <= code {
+        return Line::Unknown;
+    }
+    let second = code + 1;
+    let date = field_end(line, second);
+    if n <= date {
+        return Line::Unknown;
+    }
+    let third = date + 1;
+    let end = field_end(line, third);
+    if end < n {
+        return Line::Unknown;
+    }
+    let first = day_in(&line[second..date]);
+    let last = day_in(&line[third..end]);
+    if (first < DAYS) & (last < DAYS) {
+        Line::EnrolActor(code as u32, first, last)
+    } else {
+        Line::Unknown
+    }
+}
+
+// `C,category`
+fn category(line: &[u8]) -> Line
+    requires { ⌜ (start ≤ length (now line)) × (length (now line) ≤ lineMost) ⌝ }
+    ensures { λ r. ⌜ ReadAs (now (line .entry)) r (categoryIn (fieldsFrom (now (line .entry)) start)) ⌝ }
+{
+    let end = field_end(line, 2);
+    if end < line.len() {
+        return Line::Unknown;
+    }
+    Line::EnrolCategory
+}
+
+// `F,submitter,name`
+fn file(line: &[u8]) -> Line
+    requires { ⌜ (start ≤ length (now line)) × (length (now line) ≤ lineMost) ⌝ }
+    ensures { λ r. ⌜ ReadAs (now (line .entry)) r (fileIn (fieldsFrom (now (line .entry)) start)) ⌝ }
+{
+    let n = line.len();
+    let submitter = field_end(line, 2);
+    if n <= submitter {
+        return Line::Unknown;
+    }
+    let end = field_end(line, submitter + 1);
+    if end < n {
+        return Line::Unknown;
+    }
+    Line::File(submitter as u32)
+}
+
+// `E,actor,category,date,step`
+fn engagement(line: &[u8]) -> Line
+    requires { ⌜ (start ≤ length (now line)) × (length (now line) ≤ lineMost) ⌝ }
+    ensures { λ r. ⌜ ReadAs (now (line .entry)) r (engagementIn (fieldsFrom (now (line .entry)) start)) ⌝ }
+{
+    let n = line.len();
+    let actor = field_end(line, 2);
+    if n <= actor {
+        return Line::Unknown;
+    }
+    let category = field_end(line, actor + 1);
+    if n <= category {
+        return Line::Unknown;
+    }
+    let third = category + 1;
+    let date = field_end(line, third);
+    if n <= date {
+        return Line::Unknown;
+    }
+    let fourth = date + 1;
+    let end = field_end(line, fourth);
+    if end < n {
+        return Line::Unknown;
+    }
+    let day = day_in(&line[third..date]);
+    let step = number_in(&line[fourth..end]);
+    if (day < DAYS) & (step < NUMBER_END) {
+        Line::Engagement(actor as u32, category as u32, day, step)
+    } else {
+        Line::Unknown
+    }
+}
+
+// `R,asker,id`
+fn record(line: &[u8]) -> Line
+    requires { ⌜ (start ≤ length (now line)) × (length (now line) ≤ lineMost) ⌝ }
+    ensures { λ r. ⌜ ReadAs (now (line .entry)) r (recordIn (fieldsFrom (now (line .entry)) start)) ⌝ }
+{
+    let n = line.len();
+    let asker = field_end(line, 2);
+    if n <= asker {
+        return Line::Unknown;
+    }
+    let second = asker + 1;
+    let end = field_end(line, second);
+    if end < n {
+        return Line::Unknown;
+    }
+    let id = number_in(&line[second..end]);
+    if id < NUMBER_END {
+        Line::RecordOf(asker as u32, id)
+    } else {
+        Line::Unknown
+    }
+}
+

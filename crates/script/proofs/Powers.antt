@@ -1,0 +1,104 @@
+-- The numbers at the end of a line: counted field by field, and put into places one after another.
+use mathlib.Core.Path.{_≡_, refl, sym, ap, _∙_}
+use mathlib.Core.Bool.{Bool, true, false, cond, _&&_}
+use mathlib.Core.List.{List, [], _∷_, map}
+use Prim.Native.Nat.{ℕ, zero, suc, _+_, _-_, _*_, _<_, _≤_}
+use native.Mathlib.Numerals.{add-one}
+use native.Mathlib.Omega.{arith}
+use lib.Dec.{ltb}
+use lib.ListN.{length, set, take, drop, length-take, length-drop, length-set}
+use lib.Seq.{sets}
+use borrow.Author.Tests.{ltb-true, lt-ltb, le-ltb}
+use Rattle.lists.specs.Searches.{every}
+use Rattle.lists.proofs.Tests.{and-left, and-right}
+use Rattle.script.specs.Numbers.{numberEnd, isNumber, valueOf}
+use Rattle.script.specs.Walking.{cut, fieldsFrom, FieldEnd, numberIn, countIn}
+use Rattle.script.proofs.Parting.{from-past}
+use Rattle.script.proofs.Numerals.{number-parts, number-value, number-test}
+
+-- so far: the fields counted are numbers, and those that are left decide
+pub record Counted (line : List ℕ) (from at count : ℕ) : Type 0 where
+  pub inside : at ≤ length line + 1
+  pub room : count * 2 + from ≤ at
+  pub many : count + length (fieldsFrom line at) ≡ length (fieldsFrom line from)
+  pub decides : every isNumber (fieldsFrom line at) ≡ every isNumber (fieldsFrom line from)
+
+pub counted-none : (line : List ℕ) (from : ℕ) → from ≤ length line → Counted line from from 0
+counted-none line from h = record { inside = omega arith; room = omega arith; many = omega arith; decides = refl }
+
+cut-length : (line : List ℕ) (from end : ℕ) → length (cut line from end) ≤ end - from
+cut-length line from end = omega (arith, length-take (end - from) (drop from line))
+
+module _ (line : List ℕ) (from at count end : ℕ) (c : Counted line from at count) (f : FieldEnd line at end) where
+  pub counted-bad : (v : ℕ) → v ≡ numberIn (cut line at end) → numberEnd ≤ v → 0 ≡ countIn (fieldsFrom line from)
+  unfolding countIn
+  counted-bad v q k =
+      let h = rw q at k in
+      let n : isNumber (cut line at end) ≡ false = sym (number-test (cut line at end)) ∙ le-ltb (numberIn (cut line at end)) numberEnd h in
+      let e : every isNumber (fieldsFrom line from) ≡ false = sym (c .decides) ∙ (rw (f .parts, n)) in
+      rw e
+
+  pub counted-more : (v : ℕ) → v ≡ numberIn (cut line at end) → v < numberEnd → Counted line from (end + 1) (count + 1)
+  counted-more v q k =
+      let h = rw q at k in
+      let n : isNumber (cut line at end) ≡ true = sym (number-test (cut line at end)) ∙ lt-ltb (numberIn (cut line at end)) numberEnd h in
+      let p = number-parts (cut line at end) n in
+      let l = cut-length line at end in
+      let m = rw (f .parts) at (c .many) in
+      let i = f .inside in
+      let r = c .room in
+      record {
+        inside = omega arith;
+        room = omega (arith, p .0);
+        many = omega arith;
+        decides = rw (f .parts, n) at (c .decides);
+      }
+
+pub counted-all : (line : List ℕ) (from at count : ℕ) → length line < at → Counted line from at count → count ≡ countIn (fieldsFrom line from)
+unfolding countIn
+counted-all line from at count h c =
+    let p = from-past line at h in
+    let m = rw p at (c .many) in
+    let d = rw p at (c .decides) in
+    rw (← d) (omega arith)
+
+pub count-some : (fs : List (List ℕ)) → 0 < countIn fs → (every isNumber fs ≡ true) × (countIn fs ≡ length fs)
+unfolding countIn
+count-some fs h = go (every isNumber fs) refl h
+  where
+    go : (t : Bool) → every isNumber fs ≡ t → 0 < cond t (length fs) 0 → (every isNumber fs ≡ true) × (cond (every isNumber fs) (length fs) 0 ≡ length fs)
+    go true e h = (e, rw e)
+    go false e h = absurd (omega arith)
+
+-- ---- put into places: what the rest of the fields will put there is what all of them put
+
+pub record Filled (line : List ℕ) (from : ℕ) (before : List ℕ) (at k : ℕ) (now : List ℕ) : Type 0 where
+  pub inside : at ≤ length line + 1
+  pub room : k + length (fieldsFrom line at) ≤ length now
+  pub same-length : length now ≡ length before
+  pub numbers : every isNumber (fieldsFrom line at) ≡ true
+  pub holds : sets now k (map valueOf (fieldsFrom line at)) ≡ sets before 0 (map valueOf (fieldsFrom line from))
+
+module _ (line : List ℕ) (from : ℕ) (before : List ℕ) (at k : ℕ) (now : List ℕ) (end : ℕ) (c : Filled line from before at k now) (f : FieldEnd line at end) where
+  pub filled-room : k < length now
+  filled-room = let r = rw (f .parts) at (c .room) in omega arith
+
+  pub filled-more : (v : ℕ) → v ≡ numberIn (cut line at end) → Filled line from before (end + 1) (k + 1) (set now k v)
+  filled-more w q =
+      let ns = rw (f .parts) at (c .numbers) in
+      let n = and-left (isNumber (cut line at end)) (every isNumber (fieldsFrom line (end + 1))) ns in
+      let v = number-value (cut line at end) n in
+      let r = rw (f .parts) at (c .room) in
+      let i = f .inside in
+      let s = length-set now k w in
+      record {
+        inside = omega arith;
+        room = omega (arith, s);
+        same-length = s ∙ c .same-length;
+        numbers = and-right (isNumber (cut line at end)) (every isNumber (fieldsFrom line (end + 1))) ns;
+        holds = rw (q, v, add-one k) (rw (f .parts) at (c .holds));
+      }
+
+pub filled-all : (line : List ℕ) (from : ℕ) (before : List ℕ) (at k : ℕ) (now : List ℕ) → length line < at → Filled line from before at k now
+    → now ≡ sets before 0 (map valueOf (fieldsFrom line from))
+filled-all line from before at k now h c = rw (from-past line at h) at (c .holds)

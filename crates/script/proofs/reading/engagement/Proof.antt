@@ -1,0 +1,106 @@
+-- Each way through the fields.
+use borrow.Author.Needs.{needs}
+use Rattle.script.proofs.LineKinds.{engagement-one, engagement-two, engagement-three, engagement-long, engagement-good, engagement-bad}
+use Rattle.script.proofs.reading.engagement.Statement.{statement}
+use Rattle.script.proofs.reading.engagement.Tie as tie
+
+field-end-requires : tie.Need-field-end-requires
+field-end-requires c κs = search needs
+
+returns : tie.Need-returns
+returns c = engagement-one _ _ (c .before .field-end .ensures) (c .if1 .taken)
+
+add-field-end : tie.Need-add-field-end
+add-field-end c = search needs
+
+field-end-requires-2 : tie.Need-field-end-requires-2
+field-end-requires-2 c κs = search needs
+
+returns-2 : tie.Need-returns-2
+returns-2 c = engagement-two _ _ (c .before .before .before .field-end .ensures) _ (c .before .field-end2 .ensures) (c .if2 .taken)
+
+add-third : tie.Need-add-third
+add-third c = search needs
+
+field-end-requires-3 : tie.Need-field-end-requires-3
+field-end-requires-3 c κs = search needs
+
+returns-3 : tie.Need-returns-3
+returns-3 c = engagement-three _ _ (c .before .before .before .before .before .field-end .ensures) _ (c .before .before .before .field-end2 .ensures) _ (c .before .field-end3 .ensures) (c .if3 .taken)
+
+add-fourth : tie.Need-add-fourth
+add-fourth c = search needs
+
+field-end-requires-4 : tie.Need-field-end-requires-4
+field-end-requires-4 c κs = search needs
+
+returns-4 : tie.Need-returns-4
+returns-4 c = engagement-long _ _ (c .before .before .before .before .before .before .before .field-end .ensures) _ (c .before .before .before .before .before .field-end2 .ensures) _ (c .before .before .before .field-end3 .ensures) _ (c .before .field-end4 .ensures) (c .if4 .taken)
+
+sub-day-in : tie.Need-sub-day-in
+sub-day-in c = search needs
+
+part-day-in-start : tie.Need-part-day-in-start
+part-day-in-start c = search needs
+
+part-day-in-end : tie.Need-part-day-in-end
+part-day-in-end c = search needs
+
+day-in-requires : tie.Need-day-in-requires
+day-in-requires c κs = search needs
+
+sub-number-in : tie.Need-sub-number-in
+sub-number-in c = search needs
+
+part-number-in-start : tie.Need-part-number-in-start
+part-number-in-start c = search needs
+
+part-number-in-end : tie.Need-part-number-in-end
+part-number-in-end c = search needs
+
+number-in-requires : tie.Need-number-in-requires
+number-in-requires c κs = search needs
+
+cast-t22 : tie.Need-cast-t22
+cast-t22 c = search needs
+
+cast-t23 : tie.Need-cast-t23
+cast-t23 c = search needs
+
+returns-5 : tie.Need-returns-5
+returns-5 c = 
+    engagement-good _ _ (c .before .before .before .before .before .before .before .before .before .before .before .before .field-end .ensures) _ (c .before .before .before .before .before .before .before .before .before .before .field-end2 .ensures) _ (c .before .before .before .before .before .before .before .before .field-end3 .ensures) _ (c .before .before .before .before .before .before .field-end4 .ensures) (c .before .before .before .before .before .if4 .left) _ _ (c .before .before .before .day-in .ensures)
+    (c .before .number-in .ensures) (c .before .before .before .before .before .before .before .before .before .if2 .left) (c .if5 .taken)
+
+returns-6 : tie.Need-returns-6
+returns-6 c = 
+    engagement-bad _ _ (c .before .before .before .before .before .before .before .before .before .before .before .before .field-end .ensures) _ (c .before .before .before .before .before .before .before .before .before .before .field-end2 .ensures) _ (c .before .before .before .before .before .before .before .before .field-end3 .ensures) _ (c .before .before .before .before .before .before .field-end4 .ensures) (c .before .before .before .before .before .if4 .left) _ _ (c .before .before .before .day-in .ensures)
+    (c .before .number-in .ensures) (c .if5 .left)
+
+pub engagement-spec : {M : Type 1} → statement M
+engagement-spec =
+    tie.close
+    (tie.spec
+    field-end-requires
+    returns
+    add-field-end
+    field-end-requires-2
+    returns-2
+    add-third
+    field-end-requires-3
+    returns-3
+    add-fourth
+    field-end-requires-4
+    returns-4
+    sub-day-in
+    part-day-in-start
+    part-day-in-end
+    day-in-requires
+    sub-number-in
+    part-number-in-start
+    part-number-in-end
+    number-in-requires
+    cast-t22
+    cast-t23
+    returns-5
+    returns-6)
