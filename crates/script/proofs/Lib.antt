@@ -4,3 +4,5 @@ pub mod Parting
 pub mod Numerals
 pub mod Powers
 pub mod LineKinds
+pub mod LoadLines
+pub mod Letters

@@ -148,7 +148,7 @@ fn engagement(line: &[u8]) -> Line
 }
 
 // `R,asker,id`
-fn record(line: &[u8]) -> Line
+fn record_of(line: &[u8]) -> Line
     requires { ⌜ (start ≤ length (now line)) × (length (now line) ≤ lineMost) ⌝ }
     ensures { λ r. ⌜ ReadAs (now (line .entry)) r (recordIn (fieldsFrom (now (line .entry)) start)) ⌝ }
 {
@@ -170,3 +170,64 @@ fn record(line: &[u8]) -> Line
     }
 }
 
+// `L,actor,category,date,approved,` then one power or more. The powers are counted before the first is put, so that a line that is
+// unknown leaves their places as they are.
+fn load(line: &[u8], powers: &mut [u32; 256]) -> Line
+    requires { ⌜ (start ≤ length (now line)) × (length (now line) ≤ lineMost) ⌝ }
+    ensures { λ r. ⌜ Read (now (line .entry)) (now (powers .entry)) r (now (powers .exit)) (loadIn (fieldsFrom (now (line .entry)) start)) ⌝ }
+{
+    let n = line.len();
+    let actor = field_end(line, 2);
+    if n <= actor {
+        return Line::Unknown;
+    }
+    let category = field_end(line, actor + 1);
+    if n <= category {
+        return Line::Unknown;
+    }
+    let third = category + 1;
+    let date = field_end(line, third);
+    if n <= date {
+        return Line::Unknown;
+    }
+    let fourth = date + 1;
+    let end = field_end(line, fourth);
+    if n <= end {
+        return Line::Unknown;
+    }
+    let day = day_in(&line[third..date]);
+    let approved = number_in(&line[fourth..end]);
+    let count = count_in(line, end + 1);
+    if (day < DAYS) & (approved < NUMBER_END) & (0 < count) {
+        fill(line, end + 1, powers);
+        Line::Load(actor as u32, category as u32, day, approved, count as u32)
+    } else {
+        Line::Unknown
+    }
+}
+
+// What a line asks, with the powers of a load put into lent places, the rest of them untouched.
+pub fn read_line(line: &[u8], powers: &mut [u32; 256]) -> Line
+    ensures { λ r. ⌜ Read (now (line .entry)) (now (powers .entry)) r (now (powers .exit)) (lineOf (now (line .entry))) ⌝ }
+{
+    let n = line.len();
+    if 512 < n {
+        return Line::Unknown;
+    }
+    if n < 2 {
+        return Line::Unknown;
+    }
+    if line[1] != b',' {
+        return Line::Unknown;
+    }
+    match line[0] {
+        b'E' => engagement(line),
+        b'F' => file(line),
+        b'T' => advance(line),
+        b'R' => record_of(line),
+        b'L' => load(line, powers),
+        b'A' => enrol(line),
+        b'C' => category(line),
+        _ => Line::Unknown,
+    }
+}

@@ -68,12 +68,12 @@ cast-t23 : tie.Need-cast-t23
 cast-t23 c = search needs
 
 returns-5 : tie.Need-returns-5
-returns-5 c = 
+returns-5 c =
     engagement-good _ _ (c .before .before .before .before .before .before .before .before .before .before .before .before .field-end .ensures) _ (c .before .before .before .before .before .before .before .before .before .before .field-end2 .ensures) _ (c .before .before .before .before .before .before .before .before .field-end3 .ensures) _ (c .before .before .before .before .before .before .field-end4 .ensures) (c .before .before .before .before .before .if4 .left) _ _ (c .before .before .before .day-in .ensures)
     (c .before .number-in .ensures) (c .before .before .before .before .before .before .before .before .before .if2 .left) (c .if5 .taken)
 
 returns-6 : tie.Need-returns-6
-returns-6 c = 
+returns-6 c =
     engagement-bad _ _ (c .before .before .before .before .before .before .before .before .before .before .before .before .field-end .ensures) _ (c .before .before .before .before .before .before .before .before .before .before .field-end2 .ensures) _ (c .before .before .before .before .before .before .before .before .field-end3 .ensures) _ (c .before .before .before .before .before .before .field-end4 .ensures) (c .before .before .before .before .before .if4 .left) _ _ (c .before .before .before .day-in .ensures)
     (c .before .number-in .ensures) (c .if5 .left)
 

@@ -56,7 +56,7 @@ cast-t21 : tie.Need-cast-t21
 cast-t21 c = search needs
 
 returns-4 : tie.Need-returns-4
-returns-4 c = 
+returns-4 c =
     enrol-good _ _ (c .before .before .before .before .before .before .before .before .before .before .field-end .ensures) _ (c .before .before .before .before .before .before .before .before .field-end2 .ensures) _ (c .before .before .before .before .before .before .field-end3 .ensures) (c .before .before .before .before .before .if3 .left) _ _ (c .before .before .before .day-in .ensures) (c .before .day-in2 .ensures) (c .before .before .before .before .before .before .before .before .before .if1 .left)
     (c .if4 .taken)
 

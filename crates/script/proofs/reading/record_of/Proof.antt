@@ -1,8 +1,8 @@
 -- Each way through the fields.
 use borrow.Author.Needs.{needs}
 use Rattle.script.proofs.LineKinds.{record-short, record-long, record-good, record-bad}
-use Rattle.script.proofs.reading.record.Statement.{statement}
-use Rattle.script.proofs.reading.record.Tie as tie
+use Rattle.script.proofs.reading.record_of.Statement.{statement}
+use Rattle.script.proofs.reading.record_of.Tie as tie
 
 field-end-requires : tie.Need-field-end-requires
 field-end-requires c κs = search needs
@@ -40,8 +40,8 @@ returns-3 c = record-good _ _ (c .before .before .before .before .before .before
 returns-4 : tie.Need-returns-4
 returns-4 c = record-bad _ _ (c .before .before .before .before .before .before .field-end .ensures) _ (c .before .before .before .before .field-end2 .ensures) (c .before .before .before .if2 .left) _ (c .before .number-in .ensures) (c .if3 .left)
 
-pub record-spec : {M : Type 1} → statement M
-record-spec =
+pub record-of-spec : {M : Type 1} → statement M
+record-of-spec =
     tie.close
     (tie.spec
     field-end-requires

@@ -1,0 +1,118 @@
+-- The letter at the beginning of a line says of which kind it is.
+use mathlib.Core.Path.{_≡_, refl, sym, ap, _∙_}
+use mathlib.Core.Bool.{Bool, true, false, cond}
+use mathlib.Core.List.{List, [], _∷_}
+use Prim.Native.Nat.{ℕ, zero, suc, _+_, _<_, _≤_}
+use native.Mathlib.Omega.{arith}
+use lib.Dec.{eqb, leb}
+use lib.ListN.{length, getD, drop}
+use borrow.Author.Tests.{eqb-true, eq-eqb, ne-eqb, le-leb, lt-leb}
+use Rattle.lists.proofs.Tests.{by-test}
+use Rattle.notification.specs.Reading.{onto}
+use Rattle.script.specs.Lines.{Asked, unknown, known, field, lineMost, comma, fields, letterOf, byLetter, lineOf, advanceIn, enrolIn, categoryIn, loadIn, fileIn, engagementIn, recordIn}
+use Rattle.script.specs.Walking.{start, fieldsFrom, Read, ReadAs}
+use Rattle.script.specs.declared.reading.Line.{Line}
+use Rattle.script.proofs.Parting.{from-inside, fields-parted}
+
+pub read-none : (line powers : List ℕ) (r : Line) (a b : Asked) → b ≡ a → ReadAs line r a → Read line powers r powers b
+read-none line powers r a b e p =
+    record { says = p .says powers ∙ sym e; holds = rw (e, p .none); within = p .within }
+
+pub read-some : (line powers : List ℕ) (r : Line) (after : List ℕ) (a b : Asked) → b ≡ a → Read line powers r after a → Read line powers r after b
+read-some line powers r after a b e p = rw e p
+
+-- ---- no letter
+
+unknown-either : (t : Bool) → cond t unknown unknown ≡ unknown
+unknown-either true = refl
+unknown-either false = refl
+
+-- a letter with no field after it
+letter-alone : (b : ℕ) → byLetter b [] ≡ unknown
+unfolding byLetter advanceIn enrolIn categoryIn loadIn fileIn engagementIn recordIn
+letter-alone b =
+    simp (unknown-either (eqb b 82), unknown-either (eqb b 69), unknown-either (eqb b 70), unknown-either (eqb b 76), unknown-either (eqb b 67), unknown-either (eqb b 65), unknown-either (eqb b 84))
+
+abbrev firstAsks : List (List ℕ) → Asked
+firstAsks fs = field (λ letter. byLetter (letterOf letter)) fs
+
+pub line-long : (line : List ℕ) → lineMost < length line → unknown ≡ lineOf line
+unfolding lineOf
+line-long line h = rw (lt-leb (length line) lineMost h)
+
+one-byte : (t : Bool) (x : ℕ) → firstAsks (onto t x ([] ∷ [])) ≡ unknown
+unfolding byLetter
+one-byte true x = refl
+one-byte false x = letter-alone x
+
+pub line-short : (line : List ℕ) → length line < 2 → unknown ≡ lineOf line
+unfolding lineOf fields byLetter
+line-short [] h = refl
+line-short (x ∷ []) h = sym (rw (one-byte (eqb x comma) x))
+line-short (x ∷ y ∷ s) h = absurd (omega arith)
+
+two-bytes : (t : Bool) (x y : ℕ) (h : List ℕ) (fs : List (List ℕ)) → firstAsks (onto t x ((y ∷ h) ∷ fs)) ≡ unknown
+unfolding byLetter
+two-bytes true x y h fs = refl
+two-bytes false x y h fs = refl
+
+pub line-unparted : (line : List ℕ) → 2 ≤ length line → (getD line 1 0 ≡ comma → ⊥) → unknown ≡ lineOf line
+unfolding lineOf fields
+line-unparted [] h ne = absurd (omega arith)
+line-unparted (x ∷ []) h ne = absurd (omega arith)
+line-unparted (x ∷ y ∷ s) h ne =
+    sym (rw (ne-eqb y comma ne, fields-parted s, two-bytes (eqb x comma) x y _ _) (unknown-either (leb (length (x ∷ y ∷ s)) lineMost)))
+
+-- ---- a letter and a comma
+
+first-letter : (t : Bool) (x : ℕ) (fs : List (List ℕ)) → eqb x comma ≡ t → firstAsks (onto t x ([] ∷ fs)) ≡ byLetter x fs
+unfolding byLetter
+first-letter true x fs e = rw (eqb-true x comma e)
+first-letter false x fs e = refl
+
+pub line-letter : (line : List ℕ) → 2 ≤ length line → length line ≤ lineMost → getD line 1 0 ≡ comma
+    → lineOf line ≡ byLetter (getD line 0 0) (fieldsFrom line start)
+unfolding lineOf fields
+line-letter [] h l e = absurd (omega arith)
+line-letter (x ∷ []) h l e = absurd (omega arith)
+line-letter (x ∷ y ∷ s) h l e =
+    rw (le-leb (length (x ∷ y ∷ s)) lineMost l, eq-eqb y comma e, from-inside (x ∷ y ∷ s) start h) (first-letter (eqb x comma) x (fields s) refl)
+
+-- ---- which letter
+
+pub line-with : (line : List ℕ) (b : ℕ) → 2 ≤ length line → length line ≤ lineMost → getD line 1 0 ≡ comma → getD line 0 0 ≡ b
+    → lineOf line ≡ byLetter b (fieldsFrom line start)
+line-with line b h l e k = rw (← k) (line-letter line h l e)
+
+pub no-letter : (b : ℕ) (fs : List (List ℕ)) → (b ≡ 84 → ⊥) → (b ≡ 65 → ⊥) → (b ≡ 67 → ⊥) → (b ≡ 76 → ⊥) → (b ≡ 70 → ⊥) → (b ≡ 69 → ⊥) → (b ≡ 82 → ⊥)
+    → unknown ≡ byLetter b fs
+unfolding byLetter
+no-letter b fs t a c l f e r = rw (ne-eqb b 84 t, ne-eqb b 65 a, ne-eqb b 67 c, ne-eqb b 76 l, ne-eqb b 70 f, ne-eqb b 69 e, ne-eqb b 82 r)
+
+pub letter-t : (fs : List (List ℕ)) → byLetter 84 fs ≡ advanceIn fs
+unfolding byLetter
+letter-t fs = refl
+
+pub letter-a : (fs : List (List ℕ)) → byLetter 65 fs ≡ enrolIn fs
+unfolding byLetter
+letter-a fs = refl
+
+pub letter-c : (fs : List (List ℕ)) → byLetter 67 fs ≡ categoryIn fs
+unfolding byLetter
+letter-c fs = refl
+
+pub letter-l : (fs : List (List ℕ)) → byLetter 76 fs ≡ loadIn fs
+unfolding byLetter
+letter-l fs = refl
+
+pub letter-f : (fs : List (List ℕ)) → byLetter 70 fs ≡ fileIn fs
+unfolding byLetter
+letter-f fs = refl
+
+pub letter-e : (fs : List (List ℕ)) → byLetter 69 fs ≡ engagementIn fs
+unfolding byLetter
+letter-e fs = refl
+
+pub letter-r : (fs : List (List ℕ)) → byLetter 82 fs ≡ recordIn fs
+unfolding byLetter
+letter-r fs = refl
