@@ -6,3 +6,4 @@ pub mod Powers
 pub mod LineKinds
 pub mod LoadLines
 pub mod Letters
+pub mod Decimals

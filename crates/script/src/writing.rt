@@ -1,0 +1,1 @@
+// The line that answers a line of the script.
