@@ -7,3 +7,4 @@ pub mod LineKinds
 pub mod LoadLines
 pub mod Letters
 pub mod Decimals
+pub mod AnswerLines

@@ -26,6 +26,10 @@ okText said = 111 ∷ 107 ∷ valuesText (said .letter) 0 (take (said .count) (s
 abbrev pub noText : Said → List ℕ
 noText said = 110 ∷ 111 ∷ comma ∷ (decimal (said .number) ++ comma ∷ decimal (said .place))
 
--- THE LINE THAT ANSWERS, with its LF
+-- what comes after the line's number, with the LF
+unfoldable pub saidText : Said → List ℕ
+saidText said = comma ∷ (cond (eqb (said .number) 0) (okText said) (noText said) ++ 10 ∷ [])
+
+-- THE LINE THAT ANSWERS
 unfoldable pub answerLine : ℕ → Said → List ℕ
-answerLine number said = decimal number ++ comma ∷ (cond (eqb (said .number) 0) (okText said) (noText said) ++ 10 ∷ [])
+answerLine number said = decimal number ++ saidText said
