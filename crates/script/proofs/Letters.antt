@@ -10,7 +10,8 @@ use borrow.Author.Tests.{eqb-true, eq-eqb, ne-eqb, le-leb, lt-leb}
 use Rattle.lists.proofs.Tests.{by-test}
 use Rattle.notification.specs.Reading.{onto}
 use Rattle.script.specs.Lines.{Asked, unknown, known, field, lineMost, comma, fields, letterOf, byLetter, lineOf, advanceIn, enrolIn, categoryIn, loadIn, fileIn, engagementIn, recordIn}
-use Rattle.script.specs.Walking.{start, fieldsFrom, Read, ReadAs}
+use Rattle.script.specs.Spans.{start, Read}
+use Rattle.script.specs.Walking.{fieldsFrom, ReadAs}
 use Rattle.script.specs.declared.reading.Line.{Line}
 use Rattle.script.proofs.Parting.{from-inside, fields-parted}
 

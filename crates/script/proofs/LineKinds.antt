@@ -14,7 +14,8 @@ use Rattle.lists.proofs.Tests.{and-right}
 use Rattle.calendar.specs.Dates.{dayCount}
 use Rattle.script.specs.Numbers.{numberEnd, isNumber, valueOf, dayIn, isDay}
 use Rattle.script.specs.Lines.{Asked, unknown, powersOf, fields, advanceIn, enrolIn, categoryIn, fileIn, engagementIn, recordIn}
-use Rattle.script.specs.Walking.{cut, start, asked, Within, fieldsFrom, FieldEnd, numberIn, ReadAs}
+use Rattle.script.specs.Spans.{cut, start, asked, Within}
+use Rattle.script.specs.Walking.{fieldsFrom, FieldEnd, numberIn, ReadAs}
 use Rattle.script.specs.declared.reading.Line.{Line}
 use Rattle.script.specs.declared.reading.Line.the-variants.{Advance, EnrolActor, EnrolCategory, File, Engagement, RecordOf, Unknown}
 use Rattle.script.proofs.Parting.{isComma, restAt, from-inside, from-past, fields-parted}

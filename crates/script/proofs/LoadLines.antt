@@ -13,7 +13,8 @@ use Rattle.lists.proofs.Tests.{by-test, and-left, and-right}
 use Rattle.calendar.specs.Dates.{dayCount}
 use Rattle.script.specs.Numbers.{numberEnd, isNumber, valueOf, dayIn, isDay}
 use Rattle.script.specs.Lines.{Asked, load, unknown, powersOf, known, lineMost, loadIn}
-use Rattle.script.specs.Walking.{cut, start, asked, fieldsFrom, FieldEnd, numberIn, countIn, Read}
+use Rattle.script.specs.Spans.{cut, start, asked, Read}
+use Rattle.script.specs.Walking.{fieldsFrom, FieldEnd, numberIn, countIn}
 use Rattle.script.specs.declared.reading.Line.the-variants.{Load, Unknown}
 use Rattle.script.proofs.Parting.{isComma, restAt}
 use Rattle.script.proofs.Powers.{count-some}

@@ -13,7 +13,8 @@ use Rattle.lists.proofs.Tests.{by-test}
 use Rattle.lists.proofs.Places.{place-here, place-past, place-end}
 use Rattle.notification.specs.Reading.{onto}
 use Rattle.script.specs.Lines.{comma, fields}
-use Rattle.script.specs.Walking.{cut, fieldsFrom, FieldEnd}
+use Rattle.script.specs.Spans.{cut}
+use Rattle.script.specs.Walking.{fieldsFrom, FieldEnd}
 
 abbrev pub isComma : ℕ → Bool
 isComma b = eqb b comma

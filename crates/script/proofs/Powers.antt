@@ -12,7 +12,8 @@ use borrow.Author.Tests.{ltb-true, lt-ltb, le-ltb}
 use Rattle.lists.specs.Searches.{every}
 use Rattle.lists.proofs.Tests.{and-left, and-right}
 use Rattle.script.specs.Numbers.{numberEnd, isNumber, valueOf}
-use Rattle.script.specs.Walking.{cut, fieldsFrom, FieldEnd, numberIn, countIn}
+use Rattle.script.specs.Spans.{cut}
+use Rattle.script.specs.Walking.{fieldsFrom, FieldEnd, numberIn, countIn}
 use Rattle.script.proofs.Parting.{from-past}
 use Rattle.script.proofs.Numerals.{number-parts, number-value, number-test}
 

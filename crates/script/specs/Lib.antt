@@ -2,4 +2,5 @@
 pub mod Numbers
 pub mod Lines
 pub mod Answers
+pub mod Spans
 pub mod Walking

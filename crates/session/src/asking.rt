@@ -5,7 +5,7 @@ ghost use mathlib.Core.List.{List};
 ghost use Prim.Native.Nat.{ℕ};
 ghost use lib.ListN.{length};
 ghost use Rattle.register.specs.View.{view};
-ghost use Rattle.script.specs.Walking.{asked, Within};
+ghost use Rattle.script.specs.Spans.{asked, Within};
 ghost use Rattle.session.specs.Lines.{only, lineStep};
 use answers::Said;
 use answers::of_engaged;

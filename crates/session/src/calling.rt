@@ -7,7 +7,7 @@ ghost use lib.ListN.{length};
 ghost use Rattle.tables.specs.Tables.{Columns};
 ghost use Rattle.register.specs.View.{view};
 ghost use Rattle.turns.specs.Told.{Told};
-ghost use Rattle.script.specs.Walking.{asked, Within};
+ghost use Rattle.script.specs.Spans.{asked, Within};
 ghost use Rattle.session.specs.Lines.{lineStep};
 use answers::refused;
 use register::Head;
