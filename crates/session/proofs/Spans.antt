@@ -13,8 +13,7 @@ use Rattle.ledger.specs.Asking.{askEngagement, askRecord}
 use Rattle.answers.specs.Values.{saidEngaged, saidShown, saidRefused}
 use Rattle.turns.specs.Told.{Told, told}
 use Rattle.script.specs.Lines.{Asked}
-use Rattle.script.specs.Spans.{cut, asked, Within}
-use Rattle.script.specs.Walking.{Read}
+use Rattle.script.specs.Spans.{cut, asked, Within, Read}
 use Rattle.script.specs.declared.reading.Line.{Line}
 use Rattle.script.specs.declared.reading.Line.the-variants.{Advance, EnrolActor, EnrolCategory, Load, File, Engagement, RecordOf, Unknown}
 use Rattle.session.specs.Lines.{only, noCall, lineStep}
