@@ -1,10 +1,9 @@
 // The calls that may change a register, each by a line of a scenario.
 use crate::actors::code_of;
+use crate::files::file_of;
 use crate::powers::first_of;
 use crate::powers::loaded_powers;
-use crate::powers::noted;
 use crate::powers::profile_of;
-use crate::printing::put;
 use crate::words::byte_at;
 use crate::words::date;
 use crate::words::later;
@@ -12,11 +11,8 @@ use crate::words::number;
 use crate::words::part;
 use crate::words::rest;
 use crate::words::word;
-use notification::Notification;
-use notification::Written;
 use register::Head;
 use register::Reply;
-use writer::writing::write_file;
 
 // `actor ACTOR FIRST LAST`: enrols an actor with its contract. A text that is no letter is a code as it stands.
 fn actor(head: Head, line: &[u8]) -> Reply {
@@ -56,70 +52,7 @@ fn load(head: Head, loads: &mut [[u16; 50]; 64], line: &[u8], days: u32) -> Repl
     )
 }
 
-// Writes a notification and files it under its own name.
-fn file_note(
-    head: Head,
-    keys: &mut [u32; 256],
-    marks: &mut [[u8; 4]; 256],
-    rows: &mut [[u16; 50]; 256],
-    loads: &[[u16; 50]; 64],
-    submitter: &[u8],
-    n: Notification,
-) -> Reply {
-    let mut name = [0u8; 57];
-    let mut body = [0u8; 967];
-    let written = write_file(n, &mut name, &mut body);
-    match written {
-        Written::Lengths(a, b) => head.file(
-            keys,
-            marks,
-            rows,
-            loads,
-            submitter,
-            part(&name, 0, a),
-            part(&body, 0, b),
-        ),
-        Written::Refused(r) => {
-            put(b"not written, ");
-            head.refused(r)
-        }
-    }
-}
-
-// Writes a notification and files its body under another name.
-fn file_under(
-    head: Head,
-    keys: &mut [u32; 256],
-    marks: &mut [[u8; 4]; 256],
-    rows: &mut [[u16; 50]; 256],
-    loads: &[[u16; 50]; 64],
-    submitter: &[u8],
-    other: &[u8],
-    n: Notification,
-) -> Reply {
-    let mut name = [0u8; 57];
-    let mut body = [0u8; 967];
-    let written = write_file(n, &mut name, &mut body);
-    match written {
-        Written::Lengths(_, b) => head.file(
-            keys,
-            marks,
-            rows,
-            loads,
-            submitter,
-            other,
-            part(&body, 0, b),
-        ),
-        Written::Refused(r) => {
-            put(b"not written, ");
-            head.refused(r)
-        }
-    }
-}
-
-// `file SUBMITTER CEDER ACQUIRER CATEGORY DATE POWER [STEP POWER]`: writes the file and files it.
-// `named SUBMITTER NAME CEDER ACQUIRER CATEGORY DATE POWER`: the same under another name.
-// `body SUBMITTER NAME BODY`: files a body as it stands, without LF.
+// `file`, `named` and `body` (see `files`): files a name and a body.
 fn file(
     head: Head,
     keys: &mut [u32; 256],
@@ -127,26 +60,20 @@ fn file(
     rows: &mut [[u16; 50]; 256],
     loads: &[[u16; 50]; 64],
     line: &[u8],
-    kind: u8,
 ) -> Reply {
     let submitter = code_of(word(line, 1));
-    if kind == b'b' {
-        return head.file(
-            keys,
-            marks,
-            rows,
-            loads,
-            &submitter,
-            word(line, 2),
-            rest(line, 3),
-        );
-    }
-    if kind == b'n' {
-        let n = noted(rest(line, 3), profile_of(rest(line, 7)));
-        return file_under(head, keys, marks, rows, loads, &submitter, word(line, 2), n);
-    }
-    let n = noted(rest(line, 2), profile_of(rest(line, 6)));
-    file_note(head, keys, marks, rows, loads, &submitter, n)
+    let file = file_of(line);
+    let name = file.name;
+    let body = file.body;
+    head.file(
+        keys,
+        marks,
+        rows,
+        loads,
+        &submitter,
+        part(&name, 0, file.name_length),
+        part(&body, 0, file.body_length),
+    )
 }
 
 // The call that a line's first letter says.
@@ -172,5 +99,5 @@ pub(crate) fn call(
     if kind == b'l' {
         return load(head, loads, line, days);
     }
-    file(head, keys, marks, rows, &*loads, line, kind)
+    file(head, keys, marks, rows, &*loads, line)
 }

@@ -191,7 +191,7 @@ fn stand(
     record_count(head, keys, word(line, 1));
 }
 
-// The read-only call that a line's first letter says; `engagement ACTOR CATEGORY DATE STEP` is one.
+// The read-only call that a line's first letter says, if it is one; `engagement ACTOR CATEGORY DATE STEP` is.
 pub(crate) fn ask(
     head: Head,
     keys: &[u32; 256],
@@ -202,16 +202,22 @@ pub(crate) fn ask(
 ) {
     let kind = byte_at(line, 0);
     if kind == b'e' {
+        put(b": ");
         engaged(head, keys, marks, rows, loads, word(line, 1), rest(line, 2));
         return;
     }
     if kind == b'r' {
+        put(b": ");
         record(head, keys, marks, rows, line);
         return;
     }
     if kind == b'h' {
+        put(b": ");
         history(head, keys, line);
         return;
     }
-    stand(head, keys, marks, rows, loads, line);
+    if kind == b's' {
+        put(b": ");
+        stand(head, keys, marks, rows, loads, line);
+    }
 }

@@ -1,4 +1,4 @@
-// A scenario is run line by line on a register of its own, and each line is printed with what its call answers.
+// A text is run line by line, and each line is printed with what its call answers.
 use crate::calls::call;
 use crate::printing::put;
 use crate::printing::put_answer;
@@ -11,8 +11,45 @@ use crate::words::rest;
 use crate::words::word;
 use register::Head;
 
+// Whether a line's first letter says a call that may change the register.
+fn is_call(kind: u8) -> bool {
+    (kind == b'a')
+        | (kind == b'c')
+        | (kind == b't')
+        | (kind == b'l')
+        | (kind == b'f')
+        | (kind == b'n')
+        | (kind == b'b')
+}
+
+// How many times a line's call is made. A line that asks, tells or is a title makes none.
+fn times_of(line: &[u8]) -> u32 {
+    let kind = byte_at(line, 0);
+    if kind == b'm' {
+        return number(word(line, 1));
+    }
+    if is_call(kind) { 1 } else { 0 }
+}
+
 // `many TIMES CALL`: the same call many times; each load is for the day after the one before.
-fn many(
+fn call_in(line: &[u8]) -> &[u8] {
+    if byte_at(line, 0) == b'm' {
+        return rest(line, 2);
+    }
+    line
+}
+
+// What stands before an answer.
+fn put_before(k: u32) {
+    if k == 0 {
+        put(b": ");
+    } else {
+        put(b", ");
+    }
+}
+
+// Makes a call so many times, and prints the answers.
+fn make_calls(
     head: Head,
     keys: &mut [u32; 256],
     marks: &mut [[u8; 4]; 256],
@@ -34,33 +71,23 @@ fn many(
             k,
         );
         now = reply.head;
+        put_before(k);
+        let answer = reply.answer;
+        put_answer(answer);
         k += 1;
     }
-    put(b"done");
     now
 }
 
-// One call, and its answer.
-fn once(
-    head: Head,
-    keys: &mut [u32; 256],
-    marks: &mut [[u8; 4]; 256],
-    rows: &mut [[u16; 50]; 256],
-    loads: &mut [[u16; 50]; 64],
-    line: &[u8],
-) -> Head {
-    let reply = call(head, keys, marks, rows, loads, line, 0);
-    let answer = reply.answer;
-    put_answer(answer);
-    reply.head
+// A title begins a scenario, with a fresh register.
+fn begun(head: Head, line: &[u8]) -> Head {
+    if byte_at(line, 0) == b'#' {
+        return Head::fresh();
+    }
+    head
 }
 
-// Whether a line's first letter says a read-only call.
-fn is_question(kind: u8) -> bool {
-    (kind == b'e') | (kind == b'r') | (kind == b'h') | (kind == b's')
-}
-
-// What a line says: a question, many calls or one. A line that begins with a hyphen only tells.
+// Prints a line, and what it asks or its calls answer.
 fn run_line(
     head: Head,
     keys: &mut [u32; 256],
@@ -69,51 +96,34 @@ fn run_line(
     loads: &mut [[u16; 50]; 64],
     line: &[u8],
 ) -> Head {
-    let kind = byte_at(line, 0);
-    if kind == b'-' {
-        return head;
-    }
-    put(b": ");
-    if is_question(kind) {
-        ask(head, &*keys, &*marks, &*rows, &*loads, line);
-        return head;
-    }
-    if kind == b'm' {
-        let times = number(word(line, 1));
-        return many(head, keys, marks, rows, loads, rest(line, 2), times);
-    }
-    once(head, keys, marks, rows, loads, line)
+    put(line);
+    let now = begun(head, line);
+    ask(now, &*keys, &*marks, &*rows, &*loads, line);
+    make_calls(now, keys, marks, rows, loads, call_in(line), times_of(line))
 }
 
-// Runs the lines one after another.
-fn run_lines(
+// Runs a text's lines one after another, on columns that the caller lends.
+pub(crate) fn run_lines(
     keys: &mut [u32; 256],
     marks: &mut [[u8; 4]; 256],
     rows: &mut [[u16; 50]; 256],
     loads: &mut [[u16; 50]; 64],
-    lines: &[u8],
+    text: &[u8],
 ) {
     let mut head = Head::fresh();
-    let n = lines_in(lines);
+    let n = lines_in(text);
     let mut k: u32 = 0;
     while k < n {
-        let line = line_of(lines, k);
-        put(line);
-        let next = run_line(head, &mut *keys, &mut *marks, &mut *rows, &mut *loads, line);
+        let next = run_line(
+            head,
+            &mut *keys,
+            &mut *marks,
+            &mut *rows,
+            &mut *loads,
+            line_of(text, k),
+        );
         head = next;
         put(b"\n");
         k += 1;
     }
-}
-
-// Runs a scenario from a fresh register. What the lent columns hold at first means nothing.
-pub(crate) fn run(title: &[u8], lines: &[u8]) {
-    let mut keys = [7u32; 256];
-    let mut marks = [[7u8; 4]; 256];
-    let mut rows = [[7u16; 50]; 256];
-    let mut loads = [[7u16; 50]; 64];
-    put(title);
-    put(b"\n");
-    run_lines(&mut keys, &mut marks, &mut rows, &mut loads, lines);
-    put(b"\n");
 }

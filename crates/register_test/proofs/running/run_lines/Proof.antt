@@ -5,10 +5,10 @@ use Rattle.register_test.proofs.running.run_lines.Statement.{statement}
 use Rattle.register_test.proofs.running.run_lines.Tie as tie
 
 abbrev Inv-loop : tie.InvT-loop
-Inv-loop keys₀ marks₀ rows₀ loads₀ lines head₀ n k₀ t11 keys marks rows loads head k = Unit
+Inv-loop keys₀ marks₀ rows₀ loads₀ text head₀ n k₀ t10 keys marks rows loads head k = Unit
 
 abbrev μ-loop : tie.MeasureT-loop
-μ-loop keys₀ marks₀ rows₀ loads₀ lines head₀ n k₀ t11 keys marks rows loads head k = n - k
+μ-loop keys₀ marks₀ rows₀ loads₀ text head₀ n k₀ t10 keys marks rows loads head k = n - k
 
 fresh-requires : tie.Need-fresh-requires Inv-loop μ-loop
 fresh-requires c κs = search needs
@@ -22,17 +22,14 @@ loop-holds c = search needs
 line-of-requires : tie.Need-line-of-requires Inv-loop μ-loop
 line-of-requires c κs = search needs
 
-put-requires : tie.Need-put-requires Inv-loop μ-loop
-put-requires c κs = search needs
-
 run-line-requires : tie.Need-run-line-requires Inv-loop μ-loop
 run-line-requires c κs = search needs
 
 slice-aggregate-put : tie.Need-slice-aggregate-put Inv-loop μ-loop
 slice-aggregate-put c = search needs
 
-put-requires-2 : tie.Need-put-requires-2 Inv-loop μ-loop
-put-requires-2 c κs = search needs
+put-requires : tie.Need-put-requires Inv-loop μ-loop
+put-requires c κs = search needs
 
 add-k : tie.Need-add-k Inv-loop μ-loop
 add-k c = search needs
@@ -56,10 +53,9 @@ run-lines-spec =
     lines-in-requires
     loop-holds
     line-of-requires
-    put-requires
     run-line-requires
     slice-aggregate-put
-    put-requires-2
+    put-requires
     add-k
     loop-less
     loop-again
