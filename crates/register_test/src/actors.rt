@@ -1,7 +1,6 @@
 // The actors: a letter in a scenario stands for a code.
 use crate::printing::put;
 use crate::words::byte_at;
-use crate::words::word;
 
 // Sixteen bytes of a text.
 fn sixteen(text: &[u8]) -> [u8; 16] {
@@ -14,21 +13,13 @@ fn sixteen(text: &[u8]) -> [u8; 16] {
     code
 }
 
-// The code that a letter from A to K stands for: A's is the first word after the hyphen.
-pub(crate) fn code_of(letter: &[u8]) -> [u8; 16] {
-    let codes = b"- \
-        17X-ACTOR-A----8 \
-        17X-ACTOR-B----2 \
-        17X-ACTOR-C----X \
-        17X-ACTOR-D----R \
-        17X-ACTOR-E----L \
-        17X-ACTOR-F----F \
-        17X-ACTOR-G----9 \
-        17X-ACTOR-H----3 \
-        17X-ACTOR-I----Y \
-        17X100A100R0000L \
-        17X100A100R0001J";
-    sixteen(word(codes, (byte_at(letter, 0) % 16) as u32))
+// The code of an actor by its letter, from A to I: the letter stands in it, and it ends with its check character.
+pub(crate) fn code_of(word: &[u8]) -> [u8; 16] {
+    let letter = byte_at(word, 0);
+    let mut code = sixteen(b"17X-ACTOR-A----8");
+    code[10] = letter;
+    code[15] = byte_at(b" 82XRLF93Y", (letter % 16) as usize);
+    code
 }
 
 // A letter and its code.
@@ -45,7 +36,7 @@ fn put_actor(letter: u8) {
 pub(crate) fn put_actors() {
     put(b"The actors and their codes\n");
     let mut letter = b'A';
-    while letter <= b'K' {
+    while letter <= b'I' {
         put_actor(letter);
         letter += 1;
     }

@@ -2,11 +2,9 @@
 use crate::actors::code_of;
 use crate::files::file_of;
 use crate::powers::first_of;
-use crate::powers::loaded_powers;
-use crate::powers::profile_of;
+use crate::powers::load_of;
 use crate::words::byte_at;
 use crate::words::date;
-use crate::words::later;
 use crate::words::number;
 use crate::words::part;
 use crate::words::rest;
@@ -36,19 +34,18 @@ fn to(head: Head, line: &[u8]) -> Reply {
     head.advance(date(word(line, 1)), number(word(line, 2)))
 }
 
-// `load ACTOR CATEGORY DATE APPROVED COUNT POWER [STEP POWER]`: loads as many powers as the count says, on a day some days later.
-fn load(head: Head, loads: &mut [[u16; 50]; 64], line: &[u8], days: u32) -> Reply {
-    let powers = loaded_powers(profile_of(rest(line, 6)));
-    let n = number(word(line, 5));
-    let day = later(date(word(line, 3)), days);
-    let actor = code_of(word(line, 1));
+// `load ACTOR CATEGORY DATE APPROVED COUNT POWER [STEP POWER]`: loads as many powers as the count says.
+fn load(head: Head, loads: &mut [[u16; 50]; 64], line: &[u8]) -> Reply {
+    let load = load_of(line);
+    let actor = load.actor;
+    let powers = load.powers;
     head.load(
         loads,
         &actor,
         word(line, 2),
-        day,
-        number(word(line, 4)),
-        first_of(&powers, n),
+        load.day,
+        load.approved,
+        first_of(&powers, load.count),
     )
 }
 
@@ -84,7 +81,6 @@ pub(crate) fn call(
     rows: &mut [[u16; 50]; 256],
     loads: &mut [[u16; 50]; 64],
     line: &[u8],
-    days: u32,
 ) -> Reply {
     let kind = byte_at(line, 0);
     if kind == b'a' {
@@ -97,7 +93,7 @@ pub(crate) fn call(
         return to(head, line);
     }
     if kind == b'l' {
-        return load(head, loads, line, days);
+        return load(head, loads, line);
     }
     file(head, keys, marks, rows, &*loads, line)
 }

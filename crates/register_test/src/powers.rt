@@ -3,6 +3,7 @@ use crate::actors::code_of;
 use crate::words::byte_at;
 use crate::words::date;
 use crate::words::number;
+use crate::words::rest;
 use crate::words::word;
 use calendar::steps_of;
 use notification::Key;
@@ -44,7 +45,7 @@ fn filed_at(p: Profile, step: u32, steps: u32) -> u16 {
 }
 
 // The powers of a load, one a step of the longest day.
-pub(crate) fn loaded_powers(p: Profile) -> [u32; 50] {
+fn loaded_powers(p: Profile) -> [u32; 50] {
     let mut powers = [0u32; 50];
     let mut k: u32 = 0;
     while k < 50 {
@@ -52,6 +53,28 @@ pub(crate) fn loaded_powers(p: Profile) -> [u32; 50] {
         k += 1;
     }
     powers
+}
+
+// A load: whose, for which day, the approved power, and the powers, as many as the count says.
+pub(crate) struct Load {
+    pub actor: [u8; 16],
+    pub day: u32,
+    pub approved: u32,
+    pub count: u32,
+    pub powers: [u32; 50],
+}
+
+// The load that a line says.
+pub(crate) fn load_of(line: &[u8]) -> Load {
+    let actor = code_of(word(line, 1));
+    let powers = loaded_powers(profile_of(rest(line, 6)));
+    Load {
+        actor,
+        day: date(word(line, 3)),
+        approved: number(word(line, 4)),
+        count: number(word(line, 5)),
+        powers,
+    }
 }
 
 // The powers of a file.

@@ -167,15 +167,7 @@ fn history(head: Head, keys: &[u32; 256], line: &[u8]) {
     history_within(head, keys, &actor, &mut ids, number(word(line, 2)));
 }
 
-// How many records an actor is a party to.
-fn record_count(head: Head, keys: &[u32; 256], who: &[u8]) {
-    let mut ids = [0u32; 256];
-    let actor = code_of(who);
-    let listed = head.history(keys, &actor, &mut ids);
-    put_count(listed);
-}
-
-// `stand ACTOR OTHER CATEGORY DATE STEP`: the engagements of two actors, and how many records the first is a party to.
+// `stand ACTOR OTHER CATEGORY DATE STEP`: the engagements of two actors, and how many records there are.
 fn stand(
     head: Head,
     keys: &[u32; 256],
@@ -187,8 +179,15 @@ fn stand(
     engaged(head, keys, marks, rows, loads, word(line, 1), rest(line, 3));
     put(b", ");
     engaged(head, keys, marks, rows, loads, word(line, 2), rest(line, 3));
-    put(b", records ");
-    record_count(head, keys, word(line, 1));
+    let records = head.records;
+    put_with(b", records ", records.count);
+}
+
+// What stands before an answer of a read-only call.
+fn put_colon(kind: u8) {
+    if (kind == b'e') | (kind == b'r') | (kind == b'h') | (kind == b's') {
+        put(b": ");
+    }
 }
 
 // The read-only call that a line's first letter says, if it is one; `engagement ACTOR CATEGORY DATE STEP` is.
@@ -201,23 +200,20 @@ pub(crate) fn ask(
     line: &[u8],
 ) {
     let kind = byte_at(line, 0);
+    put_colon(kind);
     if kind == b'e' {
-        put(b": ");
         engaged(head, keys, marks, rows, loads, word(line, 1), rest(line, 2));
         return;
     }
     if kind == b'r' {
-        put(b": ");
         record(head, keys, marks, rows, line);
         return;
     }
     if kind == b'h' {
-        put(b": ");
         history(head, keys, line);
         return;
     }
     if kind == b's' {
-        put(b": ");
         stand(head, keys, marks, rows, loads, line);
     }
 }

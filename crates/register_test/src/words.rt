@@ -106,8 +106,3 @@ pub(crate) fn date(word: &[u8]) -> u32 {
         Day::NoDay => DAYS,
     }
 }
-
-// A day some days later.
-pub(crate) fn later(day: u32, days: u32) -> u32 {
-    ((day as u64 + days as u64) % 1000000) as u32
-}

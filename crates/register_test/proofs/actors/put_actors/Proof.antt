@@ -5,10 +5,10 @@ use Rattle.register_test.proofs.actors.put_actors.Statement.{statement}
 use Rattle.register_test.proofs.actors.put_actors.Tie as tie
 
 abbrev Inv-loop : tie.InvT-loop
-Inv-loop letter₀ t3 letter = letter ≤ 76
+Inv-loop letter₀ t3 letter = letter ≤ 74
 
 abbrev μ-loop : tie.MeasureT-loop
-μ-loop letter₀ t3 letter = 76 - letter
+μ-loop letter₀ t3 letter = 74 - letter
 
 slice-aggregate-put : tie.Need-slice-aggregate-put Inv-loop μ-loop
 slice-aggregate-put c = search needs
