@@ -11,6 +11,7 @@ pub mod Sound
 pub mod Readings
 pub mod Events
 pub mod Whole
+pub mod Once
 pub mod Examples
 pub mod Winter
 pub mod Witness

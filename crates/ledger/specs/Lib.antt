@@ -7,3 +7,4 @@ pub mod Calls
 pub mod Asking
 pub mod Reading
 pub mod Whole
+pub mod Once

@@ -131,7 +131,7 @@ did-step (did-load cols κs a y s e) = (ap (λ o. o .ledger) (e cols), ap (λ o.
 did-step (did-file κs a y s e) = (ap (λ o. o .ledger) e, ap (λ o. o .answer) e)
 did-step (did-advance cols ls a y s e) = (ap (λ o. o .ledger) (e cols ls), ap (λ o. o .answer) (e cols ls))
 
-ran-after : {r t : Register} {cs : List Call} {ys : List Answer} → Ran r cs ys t → (l : Ledger) → held r ≡ l → (held t ≡ after l cs) × (ys ≡ answersTo l cs)
+pub ran-after : {r t : Register} {cs : List Call} {ys : List Answer} → Ran r cs ys t → (l : Ledger) → held r ≡ l → (held t ≡ after l cs) × (ys ≡ answersTo l cs)
 ran-after none l e = (e, refl)
 ran-after (more {c = c} q k) l e =
     let p = did-step q in

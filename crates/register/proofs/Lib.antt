@@ -9,3 +9,4 @@ pub mod Records
 pub mod Notes
 pub mod Answers
 pub mod Demand3
+pub mod Once

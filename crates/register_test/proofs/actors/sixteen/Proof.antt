@@ -1,0 +1,48 @@
+-- `actors::sixteen` ends after the last byte of a code.
+use Prim.Native.Nat.{_≤_, _-_}
+use lib.ListN.{length}
+use mathlib.Core.Path.{_≡_}
+use borrow.Author.Needs.{needs}
+use Rattle.register_test.proofs.actors.sixteen.Statement.{statement}
+use Rattle.register_test.proofs.actors.sixteen.Tie as tie
+
+abbrev Inv-loop : tie.InvT-loop
+Inv-loop text code₀ i₀ code i = (i ≤ 16) × (length code ≡ 16)
+
+abbrev μ-loop : tie.MeasureT-loop
+μ-loop text code₀ i₀ code i = 16 - i
+
+loop-holds : tie.Need-loop-holds Inv-loop μ-loop
+loop-holds c = search needs
+
+byte-at-requires : tie.Need-byte-at-requires Inv-loop μ-loop
+byte-at-requires c κs = search needs
+
+array-write-code : tie.Need-array-write-code Inv-loop μ-loop
+array-write-code c = search needs
+
+add-i : tie.Need-add-i Inv-loop μ-loop
+add-i c = search needs
+
+loop-less : tie.Need-loop-less Inv-loop μ-loop
+loop-less c = search needs
+
+loop-again : tie.Need-loop-again Inv-loop μ-loop
+loop-again c = search needs
+
+returns : tie.Need-returns Inv-loop μ-loop
+returns c = search needs
+
+pub sixteen-spec : {M : Type 1} → statement M
+sixteen-spec =
+    tie.close
+    (tie.spec
+    Inv-loop
+    μ-loop
+    loop-holds
+    byte-at-requires
+    array-write-code
+    add-i
+    loop-less
+    loop-again
+    returns)

@@ -1,0 +1,48 @@
+-- `powers::six` ends after the last byte of a category.
+use Prim.Native.Nat.{_≤_, _-_}
+use lib.ListN.{length}
+use mathlib.Core.Path.{_≡_}
+use borrow.Author.Needs.{needs}
+use Rattle.register_test.proofs.powers.six.Statement.{statement}
+use Rattle.register_test.proofs.powers.six.Tie as tie
+
+abbrev Inv-loop : tie.InvT-loop
+Inv-loop word category₀ i₀ category i = (i ≤ 6) × (length category ≡ 6)
+
+abbrev μ-loop : tie.MeasureT-loop
+μ-loop word category₀ i₀ category i = 6 - i
+
+loop-holds : tie.Need-loop-holds Inv-loop μ-loop
+loop-holds c = search needs
+
+byte-at-requires : tie.Need-byte-at-requires Inv-loop μ-loop
+byte-at-requires c κs = search needs
+
+array-write-category : tie.Need-array-write-category Inv-loop μ-loop
+array-write-category c = search needs
+
+add-i : tie.Need-add-i Inv-loop μ-loop
+add-i c = search needs
+
+loop-less : tie.Need-loop-less Inv-loop μ-loop
+loop-less c = search needs
+
+loop-again : tie.Need-loop-again Inv-loop μ-loop
+loop-again c = search needs
+
+returns : tie.Need-returns Inv-loop μ-loop
+returns c = search needs
+
+pub six-spec : {M : Type 1} → statement M
+six-spec =
+    tie.close
+    (tie.spec
+    Inv-loop
+    μ-loop
+    loop-holds
+    byte-at-requires
+    array-write-category
+    add-i
+    loop-less
+    loop-again
+    returns)
