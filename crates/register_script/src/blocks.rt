@@ -1,11 +1,14 @@
 // Standard input by blocks: all lines of a block are answered before more input is awaited.
 ghost use Prim.Native.Nat.{_≤_};
 ghost use lib.ListN.{length};
-use crate::lines::answer_line;
+use crate::bodies::body_of;
+use crate::lines::LF;
 use crate::lines::flush;
 use crate::lines::line_end;
+use crate::lines::put;
 use libc::STDIN_FILENO;
 use register::Head;
+use session::answering::answer;
 use std::num::wrapping_add_u64;
 
 // The most bytes of a line, and one more: what is kept of a line whose end hasn't come yet. A line that is too long stays so when
@@ -30,45 +33,49 @@ fn answer_block(
     powers: &mut [u32; 256],
     body: &mut [u8],
     number: u64,
-    block: &[u8],
-    output: &mut [u8],
+    input: &[u8],
+    end: usize,
+    output: &mut [u8; 65536],
 ) -> Block
-    ensures { λ r. ⌜ r .at ≤ length (now (block .entry)) ⌝ }
+    requires { ⌜ end ≤ length (now input) ⌝ }
+    ensures { λ r. ⌜ r .at ≤ end ⌝ }
 {
+    let block = &input[..end];
     let mut head = head;
     let mut number = number;
     let mut at: usize = 0;
     let mut out: usize = 0;
     while at < block.len() {
-        let end = line_end(block, at);
-        if end == block.len() {
+        let stop = line_end(block, at);
+        if stop == block.len() {
             break;
         }
-        number = wrapping_add_u64(number, 1);
-        let after = answer_line(
+        let line = &block[at..stop];
+        let read = body_of(line, &mut *powers, &mut *body);
+        let n = read.length;
+        let turn = answer(
             head,
             keys,
             marks,
             rows,
             loads,
             powers,
-            body,
-            number,
-            &block[at..end],
-            output,
-            out,
+            line,
+            read.readable,
+            &body[..n],
         );
-        head = after.head;
-        out = after.out;
-        at = end + 1;
+        head = turn.head;
+        number = wrapping_add_u64(number, 1);
+        out = put(output, out, number, turn.said);
+        at = stop + 1;
     }
     flush(output, out);
     Block { head, number, at }
 }
 
 // Moves the bytes of a line whose end hasn't come yet to the front, and answers how many they are.
-fn keep(input: &mut [u8], from: usize, to: usize) -> usize
-    requires { ⌜ (from ≤ to) × (to ≤ length (now input)) ⌝ }
+fn keep(input: &mut [u8; 65536], from: usize, to: usize) -> usize
+    requires { ⌜ (from ≤ to) × (to ≤ 65536) ⌝ }
     ensures { λ r. ⌜ r ≤ 513 ⌝ }
 {
     let mut n: usize = 0;
@@ -85,14 +92,14 @@ fn keep(input: &mut [u8], from: usize, to: usize) -> usize
 // Reads more input behind what is held, and answers where it ends.
 fn read_more(input: &mut [u8], held: usize) -> usize
     requires { ⌜ held ≤ length (now input) ⌝ }
-    ensures { λ r. ⌜ (held ≤ r) × (r ≤ length (now (input .exit))) ⌝ }
+    ensures { λ r. ⌜ (held ≤ r) × (r ≤ length (now (input .entry))) ⌝ }
 {
     let got = libc::read(STDIN_FILENO, &mut input[held..]);
     held + io::count(got, &input[held..])
 }
 
-// Answers the input to its end. A proved loop has to end, and nothing says that input does: so the turns are counted down from a
-// number that no run uses up.
+// Answers the input to its end: a last line that lacks its LF is given one. A proved loop has to end, and nothing says that input
+// does: so the turns are counted down from a number that no run uses up.
 pub fn run(
     keys: &mut [u32; 256],
     marks: &mut [[u8; 4]; 256],
@@ -100,8 +107,8 @@ pub fn run(
     loads: &mut [[u16; 50]; 64],
     powers: &mut [u32; 256],
     body: &mut [u8],
-    input: &mut [u8],
-    output: &mut [u8],
+    input: &mut [u8; 65536],
+    output: &mut [u8; 65536],
 ) {
     let mut head = Head::fresh();
     let mut number: u64 = 0;
@@ -122,7 +129,8 @@ pub fn run(
             powers,
             body,
             number,
-            &input[..end],
+            &*input,
+            end,
             output,
         );
         head = block.head;
@@ -132,7 +140,8 @@ pub fn run(
     if held == 0 {
         return;
     }
-    let after = answer_line(
+    input[held] = LF;
+    answer_block(
         head,
         keys,
         marks,
@@ -140,10 +149,9 @@ pub fn run(
         loads,
         powers,
         body,
-        wrapping_add_u64(number, 1),
-        &input[..held],
+        number,
+        &*input,
+        held + 1,
         output,
-        0,
     );
-    flush(output, after.out);
 }

@@ -1,61 +1,58 @@
+use borrow.Author.Needs.{needs}
+use Prim.Native.Nat.{_≤_, _-_, _+_, _<_}
+use native.Mathlib.Omega.{arith}
+use lib.ListN.{length}
+use mathlib.Core.Path.{_≡_, refl, sym, _∙_}
 use Rattle.register_script.proofs.blocks.keep.Statement.{statement}
 use Rattle.register_script.proofs.blocks.keep.Tie as tie
 use Rattle.register_script.proofs.blocks.keep.Reads as reads
 use Rattle.register_script.proofs.blocks.keep.Lts as lts
 
 abbrev Inv-loop : tie.InvT-loop
-Inv-loop input₀ from to n₀ input n = ?
+Inv-loop input₀ from to n₀ input n = (n ≤ 513)
 
 abbrev μ-loop : tie.MeasureT-loop
-μ-loop input₀ from to n₀ input n = ?
+μ-loop input₀ from to n₀ input n = 513 - n
 
--- src/blocks.rt:75:5
+-- src/blocks.rt:82:5
 loop-holds : tie.Need-loop-holds Inv-loop μ-loop
-loop-holds c = ?
+loop-holds c = search needs
 
--- src/blocks.rt:76:12
+-- src/blocks.rt:83:12
 sub-if1 : tie.Need-sub-if1 Inv-loop μ-loop
-sub-if1 c = ?
+sub-if1 c = search needs
 
--- src/blocks.rt:77:13
-same-length : tie.Need-same-length Inv-loop μ-loop
-same-length c = ?
-
--- src/blocks.rt:77:13
+-- src/blocks.rt:84:13
 returns : tie.Need-returns Inv-loop μ-loop
-returns c = ?
+returns c = search needs
 
--- src/blocks.rt:79:26
+-- src/blocks.rt:86:26
 add-input : tie.Need-add-input Inv-loop μ-loop
-add-input c = ?
+add-input c = search needs
 
--- src/blocks.rt:79:20
-slice-read-input : tie.Need-slice-read-input Inv-loop μ-loop
-slice-read-input c = ?
+-- src/blocks.rt:86:20
+element-copy-out-input : tie.Need-element-copy-out-input Inv-loop μ-loop
+element-copy-out-input c = search needs
 
--- src/blocks.rt:79:9
-slice-write-input : tie.Need-slice-write-input Inv-loop μ-loop
-slice-write-input c = ?
+-- src/blocks.rt:86:9
+element-write-input : tie.Need-element-write-input Inv-loop μ-loop
+element-write-input c = search needs
 
--- src/blocks.rt:80:9
+-- src/blocks.rt:87:9
 add-n : tie.Need-add-n Inv-loop μ-loop
-add-n c = ?
+add-n c = search needs
 
--- src/blocks.rt:75:5
+-- src/blocks.rt:82:5
 loop-less : tie.Need-loop-less Inv-loop μ-loop
-loop-less c = ?
+loop-less c = search needs
 
--- src/blocks.rt:75:5
+-- src/blocks.rt:82:5
 loop-again : tie.Need-loop-again Inv-loop μ-loop
-loop-again c = ?
+loop-again c = search needs
 
--- src/blocks.rt:70:1
-same-length-2 : tie.Need-same-length-2 Inv-loop μ-loop
-same-length-2 c = ?
-
--- src/blocks.rt:70:1
+-- src/blocks.rt:77:1
 returns-2 : tie.Need-returns-2 Inv-loop μ-loop
-returns-2 c = ?
+returns-2 c = search needs
 
 pub keep-spec : {M : Type 1} → statement M
 keep-spec =
@@ -65,13 +62,11 @@ keep-spec =
     μ-loop
     loop-holds
     sub-if1
-    same-length
     returns
     add-input
-    slice-read-input
-    slice-write-input
+    element-copy-out-input
+    element-write-input
     add-n
     loop-less
     loop-again
-    same-length-2
     returns-2)
