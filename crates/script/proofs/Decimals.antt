@@ -45,7 +45,7 @@ length-one n h = ap length (decimal-one n h)
 
 -- ---- how many they are
 
-few : (j k n : ℕ) → n < 10 ^ suc k → length (decimalIn j n) ≤ suc k
+pub few : (j k n : ℕ) → n < 10 ^ suc k → length (decimalIn j n) ≤ suc k
 unfolding decimalIn
 few zero k n h = omega arith
 few (suc j) zero n h = let l : n < 10 = omega arith in rw (lt-ltb n 10 l) (omega arith)

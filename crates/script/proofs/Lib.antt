@@ -8,3 +8,4 @@ pub mod LoadLines
 pub mod Letters
 pub mod Decimals
 pub mod AnswerLines
+pub mod ReadBack

@@ -1,0 +1,85 @@
+-- A number of up to five digits, written and read back, is that number.
+use mathlib.Core.Path.{_≡_, refl, sym, ap, _∙_}
+use mathlib.Core.Bool.{Bool, true, false, cond, not, _&&_, _||_}
+use mathlib.Core.List.{List, [], _∷_, _++_}
+use Prim.Native.Nat.{ℕ, zero, suc, _+_, _-_, _*_, _/_, _%_, _^_, _<_, _≤_}
+use native.Mathlib.Omega.{arith}
+use lib.Dec.{eqb, ltb, leb}
+use lib.ListN.{length, getD, length-append, List·getD-append}
+use borrow.Author.Tests.{ltb-true, ltb-false, lt-ltb, le-ltb, le-leb, eq-eqb, ne-eqb}
+use Rattle.lists.specs.Searches.{every}
+use Rattle.lists.proofs.Tests.{by-test}
+use Rattle.calendar.specs.Texts.{digit, digitOf}
+use Rattle.script.specs.Numbers.{numberEnd, mostDigits, longest, needed, isNumber, valueFrom, valueOf, decimalIn, decimal}
+use Rattle.script.proofs.Decimals.{few, decimal-some, length-one}
+
+value-end : (v : ℕ) (s : List ℕ) (b : ℕ) → valueFrom v (s ++ b ∷ []) ≡ valueFrom v s * 10 + (b - 48)
+unfolding valueFrom
+value-end v [] b = refl
+value-end v (x ∷ s) b = value-end (v * 10 + (x - 48)) s b
+
+value-decimal : (k n : ℕ) → n < 10 ^ suc k → valueOf (decimalIn (suc k) n) ≡ n
+unfolding decimalIn valueFrom
+value-decimal zero n h = let l : n < 10 = omega arith in rw (lt-ltb n 10 l) (omega arith)
+value-decimal (suc k) n h =
+    by-test (ltb n 10)
+    (λ t. let l = ltb-true n 10 t in rw t (omega arith))
+    (λ t.
+    let l : n / 10 < 10 ^ suc k = omega arith in
+    rw (t, value-end 0 (decimalIn (suc k) (n / 10)) (digitOf n), value-decimal k (n / 10) l) (omega arith))
+
+digit-of : (n : ℕ) → digit (digitOf n) ≡ true
+digit-of n = rw (le-leb 48 (48 + n % 10) (omega arith), le-leb (48 + n % 10) 57 (omega arith))
+
+every-end : (s : List ℕ) (b : ℕ) → every digit s ≡ true → digit b ≡ true → every digit (s ++ b ∷ []) ≡ true
+every-end [] b e d = rw d
+every-end (x ∷ s) b e d = go (digit x) e (every-end s b)
+  where
+    go : (t : Bool) → (t && every digit s) ≡ true → (every digit s ≡ true → digit b ≡ true → every digit (s ++ b ∷ []) ≡ true)
+        → (t && every digit (s ++ b ∷ [])) ≡ true
+    go true e ih = ih e d
+    go false e ih = e
+
+every-decimal : (k n : ℕ) → every digit (decimalIn k n) ≡ true
+unfolding decimalIn
+every-decimal zero n = refl
+every-decimal (suc k) n =
+    by-test (ltb n 10)
+    (λ t. rw t (rw (digit-of n)))
+    (λ t. rw t (every-end (decimalIn k (n / 10)) (digitOf n) (every-decimal k (n / 10)) (digit-of n)))
+
+some-decimal : (k n : ℕ) → 0 < length (decimalIn (suc k) n)
+unfolding decimalIn
+some-decimal k n = by-test (ltb n 10) (λ t. rw t (omega arith)) (λ t. rw t (omega (arith, length-append (decimalIn k (n / 10)) (digitOf n ∷ []))))
+
+-- the first digit of a number above 0 isn't 0
+first-digit : (k n : ℕ) → n < 10 ^ suc k → 1 ≤ n → getD (decimalIn (suc k) n) 0 0 ≡ 48 → ⊥
+unfolding decimalIn
+first-digit zero n h l e =
+    let a : n < 10 = omega arith in
+    let f = rw (lt-ltb n 10 a) at e in
+    omega arith
+first-digit (suc k) n h l e =
+    by-test (ltb n 10)
+    (λ t. let a = ltb-true n 10 t in let f = rw t at e in omega arith)
+    (λ t.
+    let a = ltb-false n 10 t in
+    let b : n / 10 < 10 ^ suc k = omega arith in
+    let f = rw (t, List·getD-append (decimalIn (suc k) (n / 10)) (digitOf n ∷ []) 0 0 (some-decimal k (n / 10))) at e in
+    first-digit k (n / 10) b (omega arith) f)
+
+or-right : (t : Bool) → (t || true) ≡ true
+or-right true = refl
+or-right false = refl
+
+pub read-back : (n : ℕ) → n < numberEnd → (isNumber (decimal n) ≡ true) × (valueOf (decimal n) ≡ n)
+unfolding isNumber
+read-back n h =
+    (rw (le-leb 1 (length (decimal n)) (decimal-some n), le-leb (length (decimal n)) mostDigits (few longest 4 n (omega arith)), needs-none, every-decimal longest n), value-decimal 19 n (omega arith))
+  where
+    needs-none : needed (decimal n) ≡ true
+    needs-none =
+        by-test (ltb n 10)
+        (λ t. rw (eq-eqb (length (decimal n)) 1 (length-one n (ltb-true n 10 t))))
+        (λ t. let a = ltb-false n 10 t in
+        rw (ne-eqb (getD (decimal n) 0 0) 48 (first-digit 19 n (omega arith) (omega arith))) (or-right (eqb (length (decimal n)) 1)))
