@@ -112,16 +112,16 @@ fn fits(ceder: u32, acquirer: u32, p: u32, ceders: u32, acquirers: u32) -> bool
 
 // Whether all counted steps pass 32 to 35. Each step is looked at, so that many are tested at once.
 fn all_fit(
-    ceder: [u32; 50],
-    acquirer: [u32; 50],
-    ps: [u16; 50],
+    ceder: &[u32; 50],
+    acquirer: &[u32; 50],
+    ps: &[u16; 50],
     ceders: u32,
     acquirers: u32,
     first: u32,
     until: u32,
 ) -> bool
-    requires { ⌜ (until ≤ 50) × (ceders ≤ 65535) × (acquirers ≤ 65535) × ((s : ℕ) → s < 50 → getD acquirer s 0 ≤ most) ⌝ }
-    ensures { λ r. ⌜ (r ≡ true → (s : ℕ) → first ≤ s → s < until → stepFits (getD ceder s 0) (getD acquirer s 0) (getD ps s 0) ceders acquirers ≡ true) ⌝ }
+    requires { ⌜ (until ≤ 50) × (ceders ≤ 65535) × (acquirers ≤ 65535) × ((s : ℕ) → s < 50 → getD (now acquirer) s 0 ≤ most) ⌝ }
+    ensures { λ r. ⌜ (r ≡ true → (s : ℕ) → first ≤ s → s < until → stepFits (getD (now (ceder .entry)) s 0) (getD (now (acquirer .entry)) s 0) (getD (now (ps .entry)) s 0) ceders acquirers ≡ true) ⌝ }
 {
     let mut good = true;
     let mut s = first;
@@ -135,20 +135,23 @@ fn all_fit(
 
 // 32 to 35, by the nets of ceder and acquirer. The failing step is looked for only where there is one.
 pub fn step_verdict(
-    nets: Nets,
-    ps: [u16; 50],
+    ceder: &[u32; 50],
+    acquirer: &[u32; 50],
+    ps: &[u16; 50],
     ceders: u32,
     acquirers: u32,
     first: u32,
     until: u32,
 ) -> Verdict
-    requires { ⌜ (first ≤ until) × (until ≤ 50) × (ceders ≤ 65535) × (acquirers ≤ 65535) × ((s : ℕ) → s < 50 → getD (nets .acquirer) s 0 ≤ most) ⌝ }
-    ensures { λ r. ⌜ r ≡ firstMet (netTests nets ps ceders acquirers first until) ⌝ }
+    requires { ⌜ (first ≤ until) × (until ≤ 50) × (ceders ≤ 65535) × (acquirers ≤ 65535) × ((s : ℕ) → s < 50 → getD (now acquirer) s 0 ≤ most) ⌝ }
+    ensures { λ r. ⌜ r ≡ firstMet (netTests (record { ceder = now (ceder .entry); acquirer = now (acquirer .entry) }) (now (ps .entry)) ceders acquirers first until) ⌝ }
 {
-    let ceder = nets.ceder;
-    let acquirer = nets.acquirer;
     if all_fit(ceder, acquirer, ps, ceders, acquirers, first, until) {
         return Verdict::Pass;
     }
-    failing_verdict(nets, ps, ceders, acquirers, first, until)
+    let nets = Nets {
+        ceder: *ceder,
+        acquirer: *acquirer,
+    };
+    failing_verdict(nets, *ps, ceders, acquirers, first, until)
 }

@@ -11,12 +11,12 @@ use Rattle.judging.proofs.steps.all_fit.Statement.{statement}
 use Rattle.judging.proofs.steps.all_fit.Tie as tie
 
 abbrev Inv-loop : tie.InvT-loop
-Inv-loop ceders acquirers first until ceder acquirer ps good₀ s₀ good s =
+Inv-loop ceder acquirer ps ceders acquirers first until good₀ s₀ good s =
     (first ≤ s)
     × (good ≡ true → (j : ℕ) → first ≤ j → j < s → stepFits (getD ceder j 0) (getD acquirer j 0) (getD ps j 0) ceders acquirers ≡ true)
 
 abbrev μ-loop : tie.MeasureT-loop
-μ-loop ceders acquirers first until ceder acquirer ps good₀ s₀ good s = until - s
+μ-loop ceder acquirer ps ceders acquirers first until good₀ s₀ good s = until - s
 
 loop-holds : tie.Need-loop-holds Inv-loop μ-loop
 loop-holds c = (omega arith, (λ e j h l. absurd (omega arith)))
@@ -27,28 +27,28 @@ cast-at c = search needs
 mul-fits : tie.Need-mul-fits Inv-loop μ-loop
 mul-fits c = search needs
 
-array-read-fits : tie.Need-array-read-fits Inv-loop μ-loop
-array-read-fits c = search needs
+element-copy-out-fits : tie.Need-element-copy-out-fits Inv-loop μ-loop
+element-copy-out-fits c = search needs
 
 mul-fits-2 : tie.Need-mul-fits-2 Inv-loop μ-loop
 mul-fits-2 c = search needs
 
-array-read-fits-2 : tie.Need-array-read-fits-2 Inv-loop μ-loop
-array-read-fits-2 c = search needs
+element-copy-out-fits-2 : tie.Need-element-copy-out-fits-2 Inv-loop μ-loop
+element-copy-out-fits-2 c = search needs
 
 mul-wide : tie.Need-mul-wide Inv-loop μ-loop
 mul-wide c = search needs
 
-array-read-wide : tie.Need-array-read-wide Inv-loop μ-loop
-array-read-wide c = search needs
+element-copy-out-wide : tie.Need-element-copy-out-wide Inv-loop μ-loop
+element-copy-out-wide c = search needs
 
 wide-requires : tie.Need-wide-requires Inv-loop μ-loop
 wide-requires c κs = search needs
 
 fits-requires : tie.Need-fits-requires Inv-loop μ-loop
 fits-requires c κs =
-    let p = c .before .before .before .pre in
-    (c .wide .ensures .1, p .1, p .2, p .3 (c .before .before .loop .s) (omega arith))
+    let p = c .before .before .before .before .before .before .pre in
+    (c .wide .ensures .1, p .1, p .2, p .3 (c .before .before .before .before .before .loop .s) (omega arith))
 
 add-s : tie.Need-add-s Inv-loop μ-loop
 add-s c = search needs
@@ -58,13 +58,13 @@ loop-less c = search needs
 
 loop-again : tie.Need-loop-again Inv-loop μ-loop
 loop-again c =
-    let b = c .before .before .before .loop in
-    let a = c .before .before .before .before .args in (
+    let b = c .before .before .before .before .before .before .loop in
+    let a = c .before .before .before .before .before .before .before .args in (
       omega arith,
       fit-more
-          (λ j. stepFits (getD (a .t1) j 0) (getD (a .t2) j 0) (getD (a .t3) j 0) (a .ceders) (a .acquirers))
+          (λ j. stepFits (getD (a .ceder .now) j 0) (getD (a .acquirer .now) j 0) (getD (a .ps .now) j 0) (a .ceders) (a .acquirers))
           (a .first) (b .s) _ (b .good)
-          (c .fits2 .ensures ∙ ap (λ p. stepFits (getD (a .t1) (b .s) 0) (getD (a .t2) (b .s) 0) p (a .ceders) (a .acquirers)) (c .before .wide .ensures .0))
+          (c .fits2 .ensures ∙ ap (λ p. stepFits (getD (a .ceder .now) (b .s) 0) (getD (a .acquirer .now) (b .s) 0) p (a .ceders) (a .acquirers)) (c .before .wide .ensures .0))
           (b .inv .1),
     )
 
@@ -80,11 +80,11 @@ all-fit-spec =
     loop-holds
     cast-at
     mul-fits
-    array-read-fits
+    element-copy-out-fits
     mul-fits-2
-    array-read-fits-2
+    element-copy-out-fits-2
     mul-wide
-    array-read-wide
+    element-copy-out-wide
     wide-requires
     fits-requires
     add-s

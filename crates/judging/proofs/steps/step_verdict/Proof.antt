@@ -9,9 +9,10 @@ all-fit-requires c κs = search needs
 
 returns : tie.Need-returns
 returns c =
-    let a = c .before .before .before .before .args in
-    let p = c .before .before .before .before .pre in
-    all-passed (a .nets) (a .ps) (a .ceders) (a .acquirers) (a .first) (a .until) (p .0) (c .before .all-fit .ensures (c .if1 .taken))
+    let a = c .before .before .args in
+    let p = c .before .before .pre in
+    all-passed (record { ceder = a .ceder .now; acquirer = a .acquirer .now }) (a .ps .now) (a .ceders) (a .acquirers) (a .first) (a .until) (p .0)
+    (c .before .all-fit .ensures (c .if1 .taken))
 
 failing-verdict-requires : tie.Need-failing-verdict-requires
 failing-verdict-requires c κs = search needs
