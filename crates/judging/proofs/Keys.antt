@@ -1,6 +1,6 @@
 -- Keys as numbers: which records move power for an actor, in a category and on a day, and which of these are under the key itself.
 use mathlib.Core.Path.{_≡_, refl, ap, _∙_}
-use mathlib.Core.Bool.{Bool, true, false, cond, not, _&&_, _||_, false≢true}
+use mathlib.Core.Bool.{Bool, true, false, cond, not, _&&_, _||_, false≢true, true≢false}
 use Prim.Native.Nat.{ℕ, _+_, _*_, _/_, _%_, _<_}
 use native.Mathlib.Omega.{arith}
 use lib.Dec.{eqb, ltb}
@@ -23,6 +23,15 @@ same-order a b m n f g =
 never : (t : Bool) → (t ≡ true → ⊥) → t ≡ false
 never true f = absurd (f refl)
 never false f = refl
+
+-- a test that is denied
+pub not-true : (t : Bool) → not t ≡ true → t ≡ false
+not-true true e = absurd (false≢true e)
+not-true false e = refl
+
+pub not-false : (t : Bool) → not t ≡ false → t ≡ true
+not-false true e = refl
+not-false false e = absurd (true≢false e)
 
 -- one of four
 module _ (p q r t : Bool) where

@@ -1,30 +1,94 @@
--- A net while the records are passed: none, one that concerns the filing, one that doesn't.
-use mathlib.Core.Path.{_≡_, refl}
-use mathlib.Core.Bool.{Bool, true, false, cond}
+-- A net turned by one record, and while the records are passed: none, one that concerns the filing, one that doesn't, and all
+-- up to the next of the filing's category and day.
+use mathlib.Core.Path.{_≡_, refl, ap}
+use mathlib.Core.Bool.{Bool, true, false, cond, _&&_, Bool·beq, false≢true, true≢false}
 use mathlib.Core.List.{List, []}
 use Prim.Native.Nat.{ℕ, _+_, _*_, _/_, _%_, _≤_, _<_}
 use native.Mathlib.Numerals.{add-one}
 use native.Mathlib.Omega.{arith}
-use lib.Dec.{eqb}
+use lib.Dec.{eqb, leb, ltb}
 use lib.ListN.{length, getD}
 use Rattle.lists.specs.Sums.{sumTo}
-use Rattle.tables.specs.Tables.{Columns}
-use Rattle.judging.specs.Nets.{base, Between, Turned, spanned, concerns, part}
+use borrow.Author.Tests.{eqb-true, eq-eqb, le-leb, lt-ltb, le-ltb}
+use Rattle.lists.proofs.Tests.{by-test, true-false}
+use Rattle.tables.specs.Tables.{Columns, inMarket, isUnder, Listed}
+use Rattle.tables.proofs.Listing.{through, listed-skip}
+use Rattle.judging.specs.Nets.{base, Between, Added, Turned, spanned, concerns, gifts, gains, Netting}
 
--- what an actor's records of a kind move, of those that concern the filing
-abbrev pub gifts : Columns → List ℕ → ℕ → ℕ → ℕ → ℕ → ℕ
-gifts cols statuses own who s i = part cols statuses own (λ k. eqb (k / 8 % 8) who) s i
+and-false : (a b : Bool) → b ≡ false → (a && b) ≡ false
+and-false true b e = e
+and-false false b e = refl
 
-abbrev pub gains : Columns → List ℕ → ℕ → ℕ → ℕ → ℕ → ℕ
-gains cols statuses own who s i = part cols statuses own (λ k. eqb (k % 8) who) s i
+-- two tests that are the same, and two that differ
+pub alike : (a b : Bool) → Bool·beq a b ≡ true → a ≡ b
+alike true true e = refl
+alike true false e = absurd (false≢true e)
+alike false true e = absurd (false≢true e)
+alike false false e = refl
 
--- an actor's net after i records
-pub record Netting (cols : Columns) (statuses : List ℕ) (own who : ℕ) (start : List ℕ) (first until i : ℕ) (net : List ℕ) : Type 0 where
-  pub fifty : length net ≡ 50
-  pub each : (s : ℕ) → first ≤ s → s < until →
-      getD net s 0 + sumTo i (gifts cols statuses own who s) ≡ getD start s 0 + sumTo i (gains cols statuses own who s)
-  pub low : (s : ℕ) → s < 50 → base ≤ getD net s 0 + i * 65535
-  pub high : (s : ℕ) → s < 50 → getD net s 0 ≤ base + (i + 1) * 65535
+pub differs-true : (a b : Bool) → Bool·beq a b ≡ false → a ≡ true → b ≡ false
+differs-true true true e h = absurd (true≢false e)
+differs-true true false e h = refl
+differs-true false b e h = absurd (false≢true h)
+
+pub differs-false : (a b : Bool) → Bool·beq a b ≡ false → a ≡ false → b ≡ true
+differs-false true b e h = absurd (true≢false h)
+differs-false false true e h = refl
+differs-false false false e h = absurd (true≢false e)
+
+-- ---- one record
+
+nothing : (b : Bool) → _≡_ {A = ℕ} (cond b 0 0) 0
+nothing true = refl
+nothing false = refl
+
+module _ (net : List ℕ) (gains gives : Bool) (mark row : List ℕ) (first until : ℕ) where
+  -- a record that moves nothing at the counted steps
+  still : length net ≡ 50 → ((s : ℕ) → first ≤ s → s < until → cond gives (spanned mark row s) 0 ≡ cond gains (spanned mark row s) 0) →
+      Turned net gains gives mark row first until net
+  still fifty f =
+      record {
+        fifty = fifty;
+        each = λ s h l. ap (λ p. getD net s 0 + p) (f s h l);
+        low = λ s h. omega arith;
+        high = λ s h. omega arith;
+      }
+
+  pub turned-same : length net ≡ 50 → gains ≡ gives → Turned net gains gives mark row first until net
+  turned-same fifty e = still fifty (λ s h l. rw e)
+
+  pub turned-past : length net ≡ 50 → getD mark 2 0 ≤ first → Turned net gains gives mark row first until net
+  turned-past fifty e =
+      still fifty
+      (λ s h l.
+      let z : spanned mark row s ≡ 0 =
+      ap (λ b. cond b (getD row s 0) 0) (and-false (leb (getD mark 1 0) s) (ltb s (getD mark 2 0)) (le-ltb s (getD mark 2 0) (omega arith))) in
+      rw (z, nothing gives, nothing gains))
+
+  -- a record in force at all of them
+  module _ (from : getD mark 1 0 ≤ first) (till : until ≤ getD mark 2 0) where
+    whole : (s : ℕ) → first ≤ s → s < until → spanned mark row s ≡ getD row s 0
+    whole s h l = rw (le-leb (getD mark 1 0) s (omega arith), lt-ltb s (getD mark 2 0) (omega arith))
+
+    pub turned-gained : (r : List ℕ) → until ≤ 50 → gains ≡ true → gives ≡ false → Added net row r → Turned net gains gives mark row first until r
+    turned-gained r few e f a =
+        record {
+          fifty = a .fifty;
+          each = λ s h l. rw (e, f, whole s h l) (omega (arith, a .each s (omega arith)));
+          low = λ s h. omega (arith, a .each s h);
+          high = λ s h. omega (arith, a .each s h, a .small s h);
+        }
+
+    pub turned-given : (r : List ℕ) → until ≤ 50 → gains ≡ false → gives ≡ true → Added r row net → Turned net gains gives mark row first until r
+    turned-given r few e f a =
+        record {
+          fifty = a .was;
+          each = λ s h l. rw (e, f, whole s h l) (omega (arith, a .each s (omega arith)));
+          low = λ s h. omega (arith, a .each s h, a .small s h);
+          high = λ s h. omega (arith, a .each s h);
+        }
+
+-- ---- the records, one by one
 
 sum-more : (n : ℕ) (f : ℕ → ℕ) → sumTo (n + 1) f ≡ sumTo n f + f n
 sum-more n f = rw add-one
@@ -81,3 +145,26 @@ module _ (cols : Columns) (statuses : List ℕ) (own who : ℕ) (start : List �
           low = λ s l. omega (arith, t .low s l, v .low s l);
           high = λ s l. omega (arith, t .high s l, v .high s l);
         }
+
+  -- a record of another category and day concerns nobody, and is not under the key
+  elsewhere : (i : ℕ) → inMarket (cols .keys) (own / 64) i ≡ false →
+      concerns (getD (cols .keys) i 0) (getD statuses i 0) own (own / 8 % 8) (own % 8) ≡ false
+  elsewhere i e = rw e
+
+  pub netting-through : (i k : ℕ) (net : List ℕ) → i ≤ k → ((j : ℕ) → i ≤ j → j < k → inMarket (cols .keys) (own / 64) j ≡ false) →
+      Netting cols statuses own who start first until i net → Netting cols statuses own who start first until k net
+  netting-through i k net h f t =
+      through (λ j. Netting cols statuses own who start first until j net) i k h (λ j a b. netting-same j net (elsewhere j (f j a b))) t
+
+not-under : (keys : List ℕ) (own i : ℕ) → inMarket keys (own / 64) i ≡ false → isUnder keys own i ≡ false
+not-under keys own i e =
+    by-test (isUnder keys own i)
+    (λ t. true-false (inMarket keys (own / 64) i) (eq-eqb _ _ (ap (λ k. k / 64) (eqb-true (getD keys i 0) own t))) e)
+    (λ t. t)
+
+pub listed-through : (keys : List ℕ) (own i k count : ℕ) (places : List ℕ) → i ≤ k →
+    ((j : ℕ) → i ≤ j → j < k → inMarket keys (own / 64) j ≡ false) →
+    Listed (isUnder keys own) i count places → Listed (isUnder keys own) k count places
+listed-through keys own i k count places h f l =
+    through (λ j. Listed (isUnder keys own) j count places) i k h
+    (λ j a b t. listed-skip (isUnder keys own) j count places t (not-under keys own j (f j a b))) l

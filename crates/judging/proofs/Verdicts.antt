@@ -1,19 +1,22 @@
 -- The verdict of the checks 32 to 35, by the steps that the searches find.
-use mathlib.Core.Path.{_≡_, ap₂}
+use mathlib.Core.Path.{_≡_, refl, sym, _∙_, ap, ap₂}
+use mathlib.Core.Bool.{Bool, true, false, _&&_}
 use mathlib.Core.List.{List}
 use Prim.Native.Nat.{ℕ, _+_, _-_, _≤_, _<_}
 use native.Mathlib.Omega.{arith}
-use lib.Dec.{ltb}
+use native.Mathlib.Decide.{ℕ-discrete}
+use lib.Dec.{leb, ltb}
 use lib.ListN.{getD}
-use borrow.Author.Tests.{lt-ltb, le-ltb}
+use borrow.Author.Tests.{lt-ltb, le-ltb, leb-true}
 use Rattle.lists.specs.Searches.{firstFrom}
-use Rattle.lists.proofs.Searches.{first-agree}
+use Rattle.lists.proofs.Searches.{first-agree, first-none}
+use Rattle.lists.proofs.Tests.{and-left, and-right}
 use Rattle.refusals.specs.Tests.{firstMet}
 use Rattle.refusals.specs.declared.StateRefusal.the-variants.{CederBelow, AcquirerAbove, CederAbove, AcquirerBelow}
 use Rattle.refusals.specs.declared.Refusal.the-variants.{State}
 use Rattle.refusals.specs.declared.Verdict.the-variants.{Pass, No}
 use Rattle.judging.specs.Nets.{base}
-use Rattle.judging.specs.Steps.{belowAt, netTests}
+use Rattle.judging.specs.Steps.{belowAt, stepFits, netTests}
 use Rattle.judging.specs.declared.nets.Nets.{Nets}
 
 -- a search by two lists is one by what they hold
@@ -61,3 +64,46 @@ module _ (nets : Nets) (ps : List ℕ) (ceders acquirers first until : ℕ) wher
           pub passed : until ≤ t → Pass ≡ firstMet (netTests nets ps ceders acquirers first until)
           unfolding netTests
           passed l = rw (← e, le-ltb x until h, ← f, le-ltb y until i, ← g, le-ltb z until j, ← k, le-ltb t until l)
+
+-- ---- where every step fits, no check fails
+
+-- one step more that fits, while the steps passed all fit
+pub fit-more : (p : ℕ → Bool) (first s : ℕ) (x good : Bool) → x ≡ p s → (good ≡ true → (j : ℕ) → first ≤ j → j < s → p j ≡ true) →
+    (x && good) ≡ true → (j : ℕ) → first ≤ j → j < s + 1 → p j ≡ true
+fit-more p first s x good e f t j h l = go (ℕ-discrete j s)
+  where
+    go : Dec (j ≡ s) → p j ≡ true
+    go (yes q) = ap p q ∙ (sym e ∙ and-left x good t)
+    go (no ne) = f (and-right x good t) j h (omega arith)
+
+-- the four checks of a step that fits
+module _ (c a p ceders acquirers : ℕ) (e : stepFits c a p ceders acquirers ≡ true) where
+  abbrev low : Bool
+  low = leb (base + p) c && leb c (base + ceders + p)
+
+  abbrev high : Bool
+  high = leb base (a + p) && leb (a + p) (base + acquirers)
+
+  fits-32 : ltb c (base + p) ≡ false
+  fits-32 = le-ltb c (base + p) (leb-true (base + p) c (and-left (leb (base + p) c) (leb c (base + ceders + p)) (and-left low high e)))
+
+  fits-33 : ltb (base + acquirers) (a + p) ≡ false
+  fits-33 = le-ltb (base + acquirers) (a + p) (leb-true (a + p) (base + acquirers) (and-right (leb base (a + p)) (leb (a + p) (base + acquirers)) (and-right low high e)))
+
+  fits-34 : ltb (base + ceders + p) c ≡ false
+  fits-34 = le-ltb (base + ceders + p) c (leb-true c (base + ceders + p) (and-right (leb (base + p) c) (leb c (base + ceders + p)) (and-left low high e)))
+
+  fits-35 : ltb (a + p) base ≡ false
+  fits-35 = le-ltb (a + p) base (leb-true base (a + p) (and-left (leb base (a + p)) (leb (a + p) (base + acquirers)) (and-right low high e)))
+
+pub all-passed : (nets : Nets) (ps : List ℕ) (ceders acquirers first until : ℕ) → first ≤ until →
+    ((s : ℕ) → first ≤ s → s < until → stepFits (getD (nets .ceder) s 0) (getD (nets .acquirer) s 0) (getD ps s 0) ceders acquirers ≡ true) →
+    Pass ≡ firstMet (netTests nets ps ceders acquirers first until)
+all-passed nets ps ceders acquirers first until h fit =
+    let none : (p : ℕ → Bool) → ((s : ℕ) → first ≤ s → s < until → p s ≡ false) → until ≤ firstFrom p first (until - first) =
+    λ p f. omega (arith, first-none p first (until - first) (λ k a b. f k a (omega arith))) in
+    passed nets ps ceders acquirers first until _ refl
+    (none _ (λ s a b. fits-32 (getD (nets .ceder) s 0) (getD (nets .acquirer) s 0) (getD ps s 0) ceders acquirers (fit s a b))) _ refl
+    (none _ (λ s a b. fits-33 (getD (nets .ceder) s 0) (getD (nets .acquirer) s 0) (getD ps s 0) ceders acquirers (fit s a b))) _ refl
+    (none _ (λ s a b. fits-34 (getD (nets .ceder) s 0) (getD (nets .acquirer) s 0) (getD ps s 0) ceders acquirers (fit s a b))) _ refl
+    (none _ (λ s a b. fits-35 (getD (nets .ceder) s 0) (getD (nets .acquirer) s 0) (getD ps s 0) ceders acquirers (fit s a b)))

@@ -7,7 +7,7 @@ use lib.Dec.{eqb, leb, ltb}
 use lib.ListN.{length, getD}
 use Rattle.lists.specs.Sums.{sumTo}
 use Rattle.ledger.specs.Statuses.{validated, updated}
-use Rattle.tables.specs.Tables.{Columns}
+use Rattle.tables.specs.Tables.{Columns, isUnder, Listed}
 use Rattle.judging.specs.declared.nets.Nets.{Nets}
 
 -- what nets are counted from
@@ -41,12 +41,23 @@ pub record Turned (net : List ℕ) (gains gives : Bool) (mark row : List ℕ) (f
   pub low : (s : ℕ) → s < 50 → getD net s 0 ≤ getD r s 0 + 65535
   pub high : (s : ℕ) → s < 50 → getD r s 0 ≤ getD net s 0 + 65535
 
--- a record that moves power under another key of the same category and day, with one of two actors as a party
+-- a whole row added to a net
+pub record Added (net row r : List ℕ) : Type 0 where
+  pub was : length net ≡ 50
+  pub fifty : length r ≡ 50
+  pub each : (s : ℕ) → s < 50 → getD r s 0 ≡ getD net s 0 + getD row s 0
+  pub small : (s : ℕ) → s < 50 → getD row s 0 ≤ 65535
+
+-- a record that moves power, with one of two actors as a party
+abbrev pub movesFor : ℕ → ℕ → ℕ → ℕ → Bool
+movesFor key status ceder acquirer =
+    (eqb status validated || eqb status updated)
+    && (eqb (key / 8 % 8) ceder || eqb (key / 8 % 8) acquirer || (eqb (key % 8) ceder || eqb (key % 8) acquirer))
+
+-- the same under another key of the same category and day
 abbrev pub concerns : ℕ → ℕ → ℕ → ℕ → ℕ → Bool
 concerns key status own ceder acquirer =
-    eqb (key / 64) (own / 64) && not (eqb key own)
-    && ((eqb status validated || eqb status updated)
-    && (eqb (key / 8 % 8) ceder || eqb (key / 8 % 8) acquirer || (eqb (key % 8) ceder || eqb (key % 8) acquirer)))
+    eqb (key / 64) (own / 64) && not (eqb key own) && movesFor key status ceder acquirer
 
 -- what record i moves at step s where it concerns the filing, and is of a kind
 abbrev pub part : Columns → List ℕ → ℕ → (ℕ → Bool) → ℕ → ℕ → ℕ
@@ -65,3 +76,34 @@ pub record Netted (cols : Columns) (statuses : List ℕ) (n own : ℕ) (start : 
       ≡ getD (start .acquirer) s 0 + sumTo n (part cols statuses own (λ k. eqb (k % 8) (own % 8)) s)
   pub ceder-high : (s : ℕ) → s < 50 → getD (r .ceder) s 0 ≤ most
   pub acquirer-high : (s : ℕ) → s < 50 → getD (r .acquirer) s 0 ≤ most
+
+-- what an actor's records of a kind move, of those that concern the filing
+abbrev pub gifts : Columns → List ℕ → ℕ → ℕ → ℕ → ℕ → ℕ
+gifts cols statuses own who s i = part cols statuses own (λ k. eqb (k / 8 % 8) who) s i
+
+abbrev pub gains : Columns → List ℕ → ℕ → ℕ → ℕ → ℕ → ℕ
+gains cols statuses own who s i = part cols statuses own (λ k. eqb (k % 8) who) s i
+
+-- an actor's net after i records
+pub record Netting (cols : Columns) (statuses : List ℕ) (own who : ℕ) (start : List ℕ) (first until i : ℕ) (net : List ℕ) : Type 0 where
+  pub fifty : length net ≡ 50
+  pub each : (s : ℕ) → first ≤ s → s < until →
+      getD net s 0 + sumTo i (gifts cols statuses own who s) ≡ getD start s 0 + sumTo i (gains cols statuses own who s)
+  pub low : (s : ℕ) → s < 50 → base ≤ getD net s 0 + i * 65535
+  pub high : (s : ℕ) → s < 50 → getD net s 0 ≤ base + (i + 1) * 65535
+
+-- both nets while the records are passed, and the places of those under the filing's own key
+pub record Passing : Type 0 where
+  pub ceder : List ℕ
+  pub acquirer : List ℕ
+  pub places : List ℕ
+  pub count : ℕ
+
+-- record i is passed
+pub record PassedOne (cols : Columns) (statuses : List ℕ) (own first until i : ℕ) (was is : Passing) : Type 0 where
+  pub ceder : (start : List ℕ) → Netting cols statuses own (own / 8 % 8) start first until i (was .ceder) →
+      Netting cols statuses own (own / 8 % 8) start first until (i + 1) (is .ceder)
+  pub acquirer : (start : List ℕ) → Netting cols statuses own (own % 8) start first until i (was .acquirer) →
+      Netting cols statuses own (own % 8) start first until (i + 1) (is .acquirer)
+  pub places : Listed (isUnder (cols .keys) own) i (was .count) (was .places) → Listed (isUnder (cols .keys) own) (i + 1) (is .count) (is .places)
+  pub long : length (is .places) ≡ length (was .places)

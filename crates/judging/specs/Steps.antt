@@ -1,8 +1,8 @@
 -- The checks 32 to 35 by the nets of ceder and acquirer.
-use mathlib.Core.Bool.{Bool}
+use mathlib.Core.Bool.{Bool, _&&_}
 use mathlib.Core.List.{List, [], _∷_}
 use Prim.Native.Nat.{ℕ, _+_}
-use lib.Dec.{ltb}
+use lib.Dec.{leb, ltb}
 use lib.ListN.{getD}
 use Rattle.refusals.specs.Tests.{Test}
 use Rattle.refusals.specs.declared.StateRefusal.the-variants.{CederBelow, AcquirerAbove, CederAbove, AcquirerBelow}
@@ -13,6 +13,12 @@ use Rattle.judging.specs.declared.nets.Nets.{Nets}
 -- one number below another, step by step
 abbrev pub belowAt : List ℕ → List ℕ → ℕ → Bool
 belowAt left right s = ltb (getD left s 0) (getD right s 0)
+
+-- a step passes 32 to 35, by the nets there, the filed power and the approved powers
+abbrev pub stepFits : ℕ → ℕ → ℕ → ℕ → ℕ → Bool
+stepFits ceder acquirer p cedersMost acquirersMost =
+    leb (base + p) ceder && leb ceder (base + cedersMost + p)
+    && (leb base (acquirer + p) && leb (acquirer + p) (base + acquirersMost))
 
 -- 32 to 35 by the nets: ceder, acquirer without the key's own power, and the filed power
 unfoldable pub netTests : Nets → List ℕ → ℕ → ℕ → ℕ → ℕ → List Test

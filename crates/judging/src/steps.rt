@@ -1,11 +1,12 @@
 // The checks 32 to 35 of a filing at its counted steps, by what ceder and acquirer have.
 ghost use mathlib.Core.Path.{_≡_};
+ghost use mathlib.Core.Bool.{true};
 ghost use Prim.Native.Nat.{ℕ, _<_, _≤_, _+_, _-_};
 ghost use lib.ListN.{getD};
 ghost use Rattle.lists.specs.Searches.{firstFrom};
 ghost use Rattle.refusals.specs.Tests.{firstMet};
 ghost use Rattle.judging.specs.Nets.{most};
-ghost use Rattle.judging.specs.Steps.{belowAt, netTests};
+ghost use Rattle.judging.specs.Steps.{belowAt, stepFits, netTests};
 use crate::nets::BASE;
 use crate::nets::Nets;
 use refusals::Refusal;
@@ -66,8 +67,8 @@ fn sums(net: [u32; 50], ps: [u16; 50]) -> [u32; 50]
     sums
 }
 
-// 32 to 35, by the nets of ceder and acquirer.
-pub fn step_verdict(
+// 32 to 35, each looked for at all counted steps before the next.
+fn failing_verdict(
     nets: Nets,
     ps: [u16; 50],
     ceders: u32,
@@ -98,4 +99,59 @@ pub fn step_verdict(
         return no(StateRefusal::AcquirerBelow, s);
     }
     Verdict::Pass
+}
+
+// Whether a step passes 32 to 35: with the filed power moved, ceder and acquirer have from 0 to their approved power.
+fn fits(ceder: u32, acquirer: u32, p: u32, ceders: u32, acquirers: u32) -> bool
+    requires { ⌜ (p ≤ 65535) × (ceders ≤ 65535) × (acquirers ≤ 65535) × (acquirer ≤ most) ⌝ }
+    ensures { λ r. ⌜ r ≡ stepFits ceder acquirer p ceders acquirers ⌝ }
+{
+    ((BASE + p <= ceder) & (ceder <= BASE + ceders + p))
+        & ((BASE <= acquirer + p) & (acquirer + p <= BASE + acquirers))
+}
+
+// Whether all counted steps pass 32 to 35. Each step is looked at, so that many are tested at once.
+fn all_fit(
+    ceder: &[u32; 50],
+    acquirer: &[u32; 50],
+    ps: &[u16; 50],
+    ceders: u32,
+    acquirers: u32,
+    first: u32,
+    until: u32,
+) -> bool
+    requires { ⌜ (until ≤ 50) × (ceders ≤ 65535) × (acquirers ≤ 65535) × ((s : ℕ) → s < 50 → getD (now acquirer) s 0 ≤ most) ⌝ }
+    ensures { λ r. ⌜ (r ≡ true → (s : ℕ) → first ≤ s → s < until → stepFits (getD (now (ceder .entry)) s 0) (getD (now (acquirer .entry)) s 0) (getD (now (ps .entry)) s 0) ceders acquirers ≡ true) ⌝ }
+{
+    let mut good = true;
+    let mut s = first;
+    while s < until {
+        let at = s as usize;
+        good = fits(ceder[at], acquirer[at], wide(ps[at]), ceders, acquirers) & good;
+        s += 1;
+    }
+    good
+}
+
+// 32 to 35, by the nets of ceder and acquirer. The failing step is looked for only where there is one.
+pub fn step_verdict(
+    ceder: &[u32; 50],
+    acquirer: &[u32; 50],
+    ps: &[u16; 50],
+    ceders: u32,
+    acquirers: u32,
+    first: u32,
+    until: u32,
+) -> Verdict
+    requires { ⌜ (first ≤ until) × (until ≤ 50) × (ceders ≤ 65535) × (acquirers ≤ 65535) × ((s : ℕ) → s < 50 → getD (now acquirer) s 0 ≤ most) ⌝ }
+    ensures { λ r. ⌜ r ≡ firstMet (netTests (record { ceder = now (ceder .entry); acquirer = now (acquirer .entry) }) (now (ps .entry)) ceders acquirers first until) ⌝ }
+{
+    if all_fit(ceder, acquirer, ps, ceders, acquirers, first, until) {
+        return Verdict::Pass;
+    }
+    let nets = Nets {
+        ceder: *ceder,
+        acquirer: *acquirer,
+    };
+    failing_verdict(nets, *ps, ceders, acquirers, first, until)
 }

@@ -1,5 +1,5 @@
 -- What a filing makes of a record, case by case, as the code has the cases.
-use mathlib.Core.Path.{_≡_, refl, sym, _∙_, ap, ap₂}
+use mathlib.Core.Path.{_≡_, refl, sym, subst, _∙_, ap, ap₂}
 use mathlib.Core.Bool.{Bool, true, false, cond, not, _&&_, _||_, false≢true}
 use mathlib.Core.List.{List, []}
 use Prim.Native.Nat.{ℕ, _+_, _≤_, _<_}
@@ -15,7 +15,8 @@ use Rattle.calendar.specs.declared.clock.Clock.{Clock}
 use Rattle.ledger.specs.Statuses.{created, answered, deleted, validated, updated, obsolete}
 use Rattle.ledger.specs.Ledger.{Key, Rec, underKey}
 use Rattle.ledger.specs.Filing.{withStatus, ruleOne, ruleTwo, ruleThree, deletes, answers, replaces, obsoletes, samePowers, changed}
-use Rattle.tables.specs.Tables.{Columns, keyIn}
+use Rattle.tables.specs.Tables.{Columns, keyIn, isUnder, reached, Listed}
+use Rattle.tables.proofs.Listing.{listed-next, reached-more}
 use Rattle.lists.proofs.Tests.{and-true, and-right}
 use Rattle.recording.specs.Recording.{recOf, recAt, pairsBelow, ChangedAt, Changed}
 use Rattle.recording.proofs.Keys.{key-same}
@@ -62,6 +63,13 @@ pub pairs-next : (cols : Columns) (statuses : List ℕ) (i by own : ℕ) (ps : L
     (a || b) ≡ pairsBelow cols statuses (i + 1) by own ps
 unfolding pairsBelow
 pairs-next cols statuses i by own ps a b e f = rw (add-one i, e, f)
+
+-- one record more, of another key
+pub pairs-same : (cols : Columns) (statuses : List ℕ) (i by own : ℕ) (ps : List ℕ) (b : Bool) → isUnder (cols .keys) own i ≡ false →
+    b ≡ pairsBelow cols statuses i by own ps → b ≡ pairsBelow cols statuses (i + 1) by own ps
+pairs-same cols statuses i by own ps b e f =
+    pairs-next cols statuses i by own ps false b
+    (not-key by own (getD statuses i 0) (getD (cols .keys) i 0) ps (getD (cols .marks) i []) (getD (cols .rows) i []) e) f
 
 -- ---- the rules one by one
 
@@ -264,6 +272,34 @@ module _ (paired : Bool) (clock : Clock) (by own : ℕ) (ps : List ℕ) where
         rest = λ j h. refl;
       }
 
+  -- one record more, of another key
+  pub passed-same : (i : ℕ) (keys statuses next : List ℕ) (rows marks after : List (List ℕ)) → isUnder keys own i ≡ false →
+      Passed i (record { keys = keys; marks = marks; rows = rows }) (record { keys = keys; marks = after; rows = rows }) statuses next →
+      Passed (i + 1) (record { keys = keys; marks = marks; rows = rows }) (record { keys = keys; marks = after; rows = rows }) statuses next
+  passed-same i keys statuses next rows marks after ne p =
+      record {
+        below =
+            record {
+              keys = refl;
+              rows = refl;
+              marks-long = p .below .marks-long;
+              long = p .below .long;
+              below = λ id j k. go id j k (ℕ-discrete j i);
+            };
+        rest-marks = λ j k. p .rest-marks j (omega arith);
+        rest = λ j k. p .rest j (omega arith);
+      }
+    where
+      at : List (List ℕ) → List ℕ → ℕ → ℕ → Rec
+      at ms ss id j = recAt (record { keys = keys; marks = ms; rows = rows }) ss id j
+
+      go : (id j : ℕ) → j < i + 1 → Dec (j ≡ i) → at after next id j ≡ changed paired clock by (keyIn own) ps (at marks statuses id j)
+      go id j k (yes e) =
+          rw e
+          (ap₂ (λ m s. recOf id s (getD keys i 0) m (getD rows i [])) (p .rest-marks i (omega arith)) (p .rest i (omega arith))
+          ∙ sym (other-key clock by (keyIn own) ps (at marks statuses id i) paired (key-same (getD keys i 0) own ∙ ne)))
+      go id j k (no e) = p .below .below id j (omega arith)
+
   pub passed-more : (i : ℕ) (keys statuses next later : List ℕ) (rows marks after then : List (List ℕ)) →
       i < length statuses → i < length marks →
       Passed i (record { keys = keys; marks = marks; rows = rows }) (record { keys = keys; marks = after; rows = rows }) statuses next →
@@ -299,3 +335,19 @@ module _ (paired : Bool) (clock : Clock) (by own : ℕ) (ps : List ℕ) where
       go id j k (no e) =
           equal then after later next id j (c .other-marks j e) (c .other j e)
           ∙ p .below .below id j (omega arith)
+
+  -- the listed record after those passed
+  pub passed-listed : (n count j i : ℕ) (places keys statuses next later : List ℕ) (rows marks after then : List (List ℕ)) →
+      Listed (isUnder keys own) n count places → j < count → i ≡ getD places j 0 → i < length statuses → i < length marks →
+      Passed (reached places j) (record { keys = keys; marks = marks; rows = rows }) (record { keys = keys; marks = after; rows = rows }) statuses next →
+      ChangedAt paired clock by own ps i (record { keys = keys; marks = after; rows = rows }) (record { keys = keys; marks = then; rows = rows }) next later →
+      Passed (reached places (j + 1)) (record { keys = keys; marks = marks; rows = rows }) (record { keys = keys; marks = then; rows = rows }) statuses later
+  passed-listed n count j i places keys statuses next later rows marks after then l h e a b p c =
+      let before = listed-next (isUnder keys own) n count places l
+      (λ k. Passed k (record { keys = keys; marks = marks; rows = rows }) (record { keys = keys; marks = after; rows = rows }) statuses next)
+      (λ k t q. passed-same k keys statuses next rows marks after t q)
+      j h p in
+      let to : i + 1 ≡ reached places (j + 1) = ap (λ k. k + 1) e ∙ sym (reached-more places j) in
+      subst (λ m. Passed m (record { keys = keys; marks = marks; rows = rows }) (record { keys = keys; marks = then; rows = rows }) statuses later) to
+      (passed-more i keys statuses next later rows marks after then a b
+      (subst (λ m. Passed m (record { keys = keys; marks = marks; rows = rows }) (record { keys = keys; marks = after; rows = rows }) statuses next) (sym e) before) c)

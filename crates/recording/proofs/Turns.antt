@@ -1,5 +1,5 @@
 -- What one more turn of a loop over the records adds: to a test, to a sum, to the ids of an actor.
-use mathlib.Core.Path.{_≡_, sym, _∙_, ap}
+use mathlib.Core.Path.{_≡_, refl, sym, _∙_, ap}
 use mathlib.Core.Bool.{Bool, true, false, cond, _&&_}
 use mathlib.Core.List.{List, [], _∷_, _++_, append-nil, append-assoc}
 use Prim.Native.Nat.{ℕ, suc, _+_, _/_, _%_, _≤_, _<_}
@@ -12,7 +12,8 @@ use lib.Seq.{drop-cons, set-at}
 use Rattle.lists.specs.Tests.{allBelow}
 use Rattle.lists.specs.Sums.{sumTo}
 use Rattle.ledger.specs.Ledger.{movedBy}
-use Rattle.tables.specs.Tables.{Columns}
+use Rattle.tables.specs.Tables.{Columns, inMarket}
+use Rattle.tables.proofs.Listing.{through}
 use Rattle.recording.specs.Recording.{recAt, gainedAt, givenAt, partyIn, idsBelow}
 
 -- ---- tests and sums
@@ -38,6 +39,47 @@ module _ (cols : Columns) (statuses : List ℕ) (market a s i sum term p : ℕ) 
   given-next f g =
       sum-next (givenAt cols statuses market a s) i sum term f
       (g ∙ ap (λ m. cond (eqb (getD (cols .keys) i 0 / 64) market && eqb (getD (cols .keys) i 0 / 8 % 8) a) m 0) e)
+
+-- ---- from one record of the category and day to the next
+
+module _ (cols : Columns) (statuses : List ℕ) (market a s : ℕ) where
+  gained-elsewhere : (i sum : ℕ) → inMarket (cols .keys) market i ≡ false → sum ≡ sumTo i (gainedAt cols statuses market a s) →
+      sum ≡ sumTo (i + 1) (gainedAt cols statuses market a s)
+  gained-elsewhere i sum e f =
+      let z : gainedAt cols statuses market a s i ≡ 0 = rw e in
+      let g = gained-next cols statuses market a s i sum 0 (movedBy s (recAt cols statuses 0 i)) refl f (sym z) in
+      omega (arith, g)
+
+  given-elsewhere : (i sum : ℕ) → inMarket (cols .keys) market i ≡ false → sum ≡ sumTo i (givenAt cols statuses market a s) →
+      sum ≡ sumTo (i + 1) (givenAt cols statuses market a s)
+  given-elsewhere i sum e f =
+      let z : givenAt cols statuses market a s i ≡ 0 = rw e in
+      let g = given-next cols statuses market a s i sum 0 (movedBy s (recAt cols statuses 0 i)) refl f (sym z) in
+      omega (arith, g)
+
+  module _ (i k sum : ℕ) (h : i ≤ k) (none : (j : ℕ) → i ≤ j → j < k → inMarket (cols .keys) market j ≡ false) where
+    pub gained-through : sum ≡ sumTo i (gainedAt cols statuses market a s) → sum ≡ sumTo k (gainedAt cols statuses market a s)
+    gained-through f =
+        through (λ j. sum ≡ sumTo j (gainedAt cols statuses market a s)) i k h (λ j l u. gained-elsewhere j sum (none j l u)) f
+
+    pub given-through : sum ≡ sumTo i (givenAt cols statuses market a s) → sum ≡ sumTo k (givenAt cols statuses market a s)
+    given-through f =
+        through (λ j. sum ≡ sumTo j (givenAt cols statuses market a s)) i k h (λ j l u. given-elsewhere j sum (none j l u)) f
+
+  module _ (i sum term : ℕ) (here : inMarket (cols .keys) market i ≡ true) where
+    pub gained-here : sum ≡ sumTo i (gainedAt cols statuses market a s) →
+        term ≡ cond (eqb (getD (cols .keys) i 0 % 8) a) (movedBy s (recAt cols statuses 0 i)) 0 →
+        sum + term ≡ sumTo (i + 1) (gainedAt cols statuses market a s)
+    gained-here f g =
+        gained-next cols statuses market a s i sum term (movedBy s (recAt cols statuses 0 i)) refl f
+        (g ∙ sym (ap (λ b. cond (b && eqb (getD (cols .keys) i 0 % 8) a) (movedBy s (recAt cols statuses 0 i)) 0) here))
+
+    pub given-here : sum ≡ sumTo i (givenAt cols statuses market a s) →
+        term ≡ cond (eqb (getD (cols .keys) i 0 / 8 % 8) a) (movedBy s (recAt cols statuses 0 i)) 0 →
+        sum + term ≡ sumTo (i + 1) (givenAt cols statuses market a s)
+    given-here f g =
+        given-next cols statuses market a s i sum term (movedBy s (recAt cols statuses 0 i)) refl f
+        (g ∙ sym (ap (λ b. cond (b && eqb (getD (cols .keys) i 0 / 8 % 8) a) (movedBy s (recAt cols statuses 0 i)) 0) here))
 
 -- ---- the power that a record moves
 

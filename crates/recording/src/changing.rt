@@ -5,7 +5,7 @@ ghost use lib.ListN.{length, getD};
 ghost use Rattle.calendar.specs.Clocks.{firstCounted};
 ghost use Rattle.calendar.specs.declared.clock.Clock.{Clock};
 ghost use Rattle.ledger.specs.Filing.{changed};
-ghost use Rattle.tables.specs.Tables.{keyIn};
+ghost use Rattle.tables.specs.Tables.{keyIn, isUnder, Listed};
 ghost use Rattle.recording.specs.Recording.{recOf, ChangedAt, Changed};
 use crate::pairing::same_powers;
 use calendar::Clock;
@@ -123,28 +123,30 @@ fn marks_long(s: &[[u8; 4]]) -> usize
     s.len()
 }
 
-// What a filing makes of the first n records: their statuses and until-steps.
+// What a filing makes of the records: their statuses and until-steps. Those under its key are listed, and no other changes.
 pub fn change_all(
     statuses: &mut [u8; 256],
     keys: &[u32; 256],
     marks: &mut [[u8; 4]; 256],
     rows: &[[u16; 50]; 256],
-    n: u32,
+    places: &[u8; 256],
+    count: u32,
     paired: bool,
     clock: Clock,
     by: u32,
     own: u32,
     ps: [u16; 50],
 )
-    requires { ⌜ (n ≤ 256) × (firstCounted clock (own / 256) < 256) ⌝ }
-    ensures { λ r. ⌜ Changed paired clock by own ps n (record { keys = now (keys .entry); marks = now (marks .entry); rows = now (rows .entry) }) (record { keys = now (keys .entry); marks = now (marks .exit); rows = now (rows .entry) }) (now (statuses .entry)) (now (statuses .exit)) ⌝ }
+    requires { ⌜ (count ≤ 256) × (firstCounted clock (own / 256) < 256) ⌝ }
+    ensures { λ r. ⌜ ((n : ℕ) → Listed (isUnder (now (keys .entry)) own) n count (now (places .entry)) → Changed paired clock by own ps n (record { keys = now (keys .entry); marks = now (marks .entry); rows = now (rows .entry) }) (record { keys = now (keys .entry); marks = now (marks .exit); rows = now (rows .entry) }) (now (statuses .entry)) (now (statuses .exit))) ⌝ }
 {
     // Lent as slices, the columns show that they have 256 places.
-    let places = statuses_long(statuses);
-    let mark_places = marks_long(marks);
-    let mut i: u32 = 0;
-    while i < n {
+    let all_statuses = statuses_long(statuses);
+    let all_marks = marks_long(marks);
+    let mut j: u32 = 0;
+    while j < count {
+        let i = byte(places[j as usize]);
         change_at(statuses, keys, marks, rows, i, paired, clock, by, own, ps);
-        i += 1;
+        j += 1;
     }
 }

@@ -1,8 +1,8 @@
 // Whether a filing is paired: the other party has a created record under the key with the same powers (rule 2).
 ghost use mathlib.Core.Path.{_≡_};
-ghost use Prim.Native.Nat.{_<_, _≤_};
+ghost use Prim.Native.Nat.{ℕ, _<_, _≤_};
 ghost use Rattle.ledger.specs.Filing.{samePowers, answers};
-ghost use Rattle.tables.specs.Tables.{keyIn};
+ghost use Rattle.tables.specs.Tables.{keyIn, isUnder, Listed};
 ghost use Rattle.recording.specs.Recording.{recOf, pairsBelow};
 use tables::records::CREATED;
 use tables::records::byte;
@@ -44,28 +44,29 @@ pub fn is_answered(
     same_powers(row, ps)
 }
 
-// Whether one of the first n records is answered.
+// Whether one of the records is answered; those under the key are listed.
 pub fn is_paired(
     statuses: &[u8; 256],
     keys: &[u32; 256],
     marks: &[[u8; 4]; 256],
     rows: &[[u16; 50]; 256],
-    n: u32,
+    places: &[u8; 256],
+    count: u32,
     by: u32,
     own: u32,
     ps: [u16; 50],
 ) -> bool
-    requires { ⌜ n ≤ 256 ⌝ }
-    ensures { λ r. ⌜ r ≡ pairsBelow (record { keys = now (keys .entry); marks = now (marks .entry); rows = now (rows .entry) }) (now (statuses .entry)) n by own ps ⌝ }
+    requires { ⌜ count ≤ 256 ⌝ }
+    ensures { λ r. ⌜ ((n : ℕ) → Listed (isUnder (now (keys .entry)) own) n count (now (places .entry)) → r ≡ pairsBelow (record { keys = now (keys .entry); marks = now (marks .entry); rows = now (rows .entry) }) (now (statuses .entry)) n by own ps) ⌝ }
 {
     let mut found = false;
-    let mut i: u32 = 0;
-    while i < n {
-        let at = i as usize;
+    let mut j: u32 = 0;
+    while j < count {
+        let at = byte(places[j as usize]) as usize;
         let mark = marks[at];
         let row = rows[at];
         found = is_answered(statuses[at], keys[at], mark, row, by, own, ps) | found;
-        i += 1;
+        j += 1;
     }
     found
 }

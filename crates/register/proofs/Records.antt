@@ -1,5 +1,5 @@
 -- One record more: what the head and the lent columns hold once a filing is recorded.
-use mathlib.Core.Path.{_≡_, sym, _∙_, ap, ap₂}
+use mathlib.Core.Path.{_≡_, sym, subst, _∙_, ap, ap₂}
 use mathlib.Core.Bool.{Bool}
 use mathlib.Core.List.{List, [], _∷_, map}
 use Prim.Native.Nat.{ℕ, suc, _+_, _<_, _≤_, _/_, min}
@@ -15,7 +15,7 @@ use Rattle.ledger.specs.Ledger.{Rec}
 use Rattle.ledger.specs.Filing.{pairs, changed, statusBy, nextId, born, filed}
 use Rattle.ledger.specs.Calls.{Outcome}
 use Rattle.ledger.specs.declared.Answer.the-variants.{Filed}
-use Rattle.tables.specs.Tables.{Columns, keyIn, keyNumber, downFrom, recordIn, recordsIn, actorsIn, categoriesIn, loadsIn}
+use Rattle.tables.specs.Tables.{Columns, keyIn, keyNumber, isUnder, Listed, downFrom, recordIn, recordsIn, actorsIn, categoriesIn, loadsIn}
 use Rattle.tables.specs.declared.records.Records.{Records}
 use Rattle.tables.proofs.Down.{down-same}
 use Rattle.recording.specs.Recording.{pairsBelow, Changed}
@@ -24,7 +24,7 @@ use Rattle.judging.proofs.Keys.{key-unpacked}
 use Rattle.register.specs.declared.Head.{Head}
 use Rattle.register.specs.declared.verdicts.Places.{Places}
 use Rattle.register.specs.View.{view}
-use Rattle.register.specs.Judging.{keyAt, Fileable, fileAt}
+use Rattle.register.specs.Judging.{keyAt, Fileable, UnderListed, fileAt}
 use Rattle.register.proofs.Filings.{records-many}
 use Rattle.register.proofs.Head as head
 
@@ -190,3 +190,18 @@ module _ (h : Head) (loads : List (List ℕ)) (keys : List ℕ) (marks rows : Li
         let m : n + 1 ≡ suc (length (recordsIn (h .records) was)) = omega (arith, many) in
         ap (λ rs. outcomeOf h loads rs (n + 1) status first) all
         ∙ rw (is-paired, ← m, es, ef)
+
+-- ---- the records under the filing's key
+
+module _ (h : Head) (at : Places) (number : ℕ) (e : number ≡ keyNumber (at .ceder) (at .acquirer) (at .category) (at .day)) (keys places : List ℕ) (count : ℕ) where
+  -- listed by the number of the key, among the records that are there
+  pub under-listed : (n : ℕ) → n ≡ min (h .records .count) 256 → Listed (isUnder keys number) n count places →
+      UnderListed (h .records) at keys count places
+  under-listed n f l = subst (λ m. Listed (isUnder keys m) (min (h .records .count) 256) count places) e (subst (λ m. Listed (isUnder keys number) m count places) f l)
+
+  -- which are as many as the head says, where there is room for one more
+  pub listed-under : RecordRoom h at → UnderListed (h .records) at keys count places → Listed (isUnder keys number) (h .records .count) count places
+  listed-under room l =
+      let f : min (h .records .count) 256 ≡ h .records .count = omega (arith, room .room) in
+      subst (λ m. Listed (isUnder keys m) (h .records .count) count places) (sym e)
+      (subst (λ m. Listed (isUnder keys (keyNumber (at .ceder) (at .acquirer) (at .category) (at .day))) m count places) f l)

@@ -2,7 +2,7 @@
 use mathlib.Core.Path.{_≡_}
 use mathlib.Core.Bool.{Bool, true, false, cond, not, _&&_, _||_}
 use mathlib.Core.List.{List, [], _∷_, _++_}
-use Prim.Native.Nat.{ℕ, _+_, _<_}
+use Prim.Native.Nat.{ℕ, _+_, _<_, min}
 use lib.Dec.{eqb, leb, ltb}
 use lib.ListN.{length, getD}
 use Rattle.calendar.specs.Steps.{stepsOf}
@@ -14,6 +14,8 @@ use Rattle.ledger.specs.Ledger.{Key, Ledger, recordPlaces, actorAt, hasLoad}
 use Rattle.ledger.specs.Calls.{Outcome, withRecords}
 use Rattle.ledger.specs.declared.Answer.the-variants.{Filed}
 use Rattle.ledger.specs.Filing.{keyOf, pairs, filed, nextId, statusBy, noActor, noCategory, inContract, reach, cederBelow, acquirerAbove, cederAbove, acquirerBelow, failing}
+use Rattle.tables.specs.Tables.{keyNumber, isUnder, Listed}
+use Rattle.tables.specs.declared.records.Records.{Records}
 use Rattle.register.specs.declared.verdicts.Places.{Places}
 
 -- the key of a filing's places
@@ -70,6 +72,11 @@ pub record Judgeable (l : Ledger) (at : Places) : Type 0 where
 pub record Fileable (l : Ledger) (at : Places) : Type 0 where
   pub judgeable : Judgeable l at
   pub room : length (l .records) < recordPlaces
+
+-- the places of the records under a filing's key are listed
+abbrev pub UnderListed : Records → Places → List ℕ → ℕ → List ℕ → Type 0
+UnderListed x at keys count places =
+    Listed (isUnder keys (keyNumber (at .ceder) (at .acquirer) (at .category) (at .day))) (min (x .count) recordPlaces) count places
 
 -- what a filing that passes does, by its places
 unfoldable pub fileAt : Ledger → Key → ℕ → List ℕ → Outcome

@@ -98,10 +98,9 @@ impl Head {
         }
         let held = self.loads;
         let row = row_at(loads, held.find(load_number(a, z, day)));
-        let records = self.records;
-        let statuses = records.statuses;
-        let n = least(records.count, RECORDS);
-        let totals = totals_of(statuses, keys, marks, rows, n, day * 4 + z, a, step);
+        let statuses = self.records.statuses;
+        let n = least(self.records.count, RECORDS);
+        let totals = totals_of(&statuses, keys, marks, rows, n, day * 4 + z, a, step);
         Engaged::Power(less(wide(row[step as usize]) + totals.gained, totals.given))
     }
 

@@ -8,7 +8,7 @@ ghost use Rattle.ledger.specs.Calls.{Outcome, step, stepNote};
 ghost use Rattle.ledger.specs.Filing.{statusBy};
 ghost use Rattle.tables.specs.Tables.{Columns};
 ghost use Rattle.register.specs.View.{view};
-ghost use Rattle.register.specs.Judging.{keyAt, Fileable, fileAt};
+ghost use Rattle.register.specs.Judging.{keyAt, Fileable, UnderListed, fileAt};
 use crate::Head;
 use crate::Reply;
 use crate::verdicts::Places;
@@ -52,10 +52,12 @@ impl Head {
         keys: &mut [u32; 256],
         marks: &mut [[u8; 4]; 256],
         rows: &mut [[u16; 50]; 256],
+        under: &[u8; 256],
+        count: u32,
         at: Places,
         ps: [u16; 50],
     ) -> Reply
-        requires { ⌜ ((cols : Columns) (loads : List (List ℕ)) → Fileable (view self cols loads) at) ⌝ }
+        requires { ⌜ ((cols : Columns) (loads : List (List ℕ)) → Fileable (view self cols loads) at) × UnderListed (self .records) at (now keys) count (now under) ⌝ }
         ensures { λ r. ⌜ ((loads : List (List ℕ)) → _≡_ {A = Outcome} (record { ledger = view (r .head) (record { keys = now (keys .exit); marks = now (marks .exit); rows = now (rows .exit) }) loads; answer = r .answer }) (fileAt (view self (record { keys = now (keys .entry); marks = now (marks .entry); rows = now (rows .entry) }) loads) (keyAt at) (at .submitter) ps)) ⌝ }
     {
         let day = at.day;
@@ -72,13 +74,24 @@ impl Head {
         let key_places = keys_of(&*keys);
         let mark_places = marks_of(&*marks);
         let row_places = rows_of(&*rows);
-        let paired = is_paired(&statuses, &*keys, &*marks, &*rows, n, by, own, ps);
+        let paired = is_paired(
+            &statuses,
+            &*keys,
+            &*marks,
+            &*rows,
+            under,
+            count,
+            by,
+            own,
+            ps,
+        );
         change_all(
             &mut statuses,
             &*keys,
             &mut *marks,
             &*rows,
-            n,
+            under,
+            count,
             paired,
             clock,
             by,
@@ -119,11 +132,13 @@ impl Head {
     {
         let at = self.places(submitter, n);
         let ps = n.powers;
-        let verdict = self.judge(&*keys, &*marks, &*rows, loads, at, ps);
+        let mut under = [0u8; 256];
+        let judged = self.judge(&mut under, &*keys, &*marks, &*rows, loads, at, ps);
+        let verdict = judged.verdict;
         if let Verdict::No(r) = verdict {
             return self.refused(r);
         }
-        self.record_note(keys, marks, rows, at, ps)
+        self.record_note(keys, marks, rows, &under, judged.count, at, ps)
     }
 
     // Files a notification by its submitter's code, its file's name and its body.
@@ -144,7 +159,16 @@ impl Head {
         if let Verdict::No(r) = verdict {
             return self.refused(r);
         }
+        // As `file_note` does, which would take a copy of the head.
         let n = reading.notification;
-        self.file_note(keys, marks, rows, loads, submitter, n)
+        let at = self.places(submitter, n);
+        let ps = n.powers;
+        let mut under = [0u8; 256];
+        let judged = self.judge(&mut under, &*keys, &*marks, &*rows, loads, at, ps);
+        let verdict = judged.verdict;
+        if let Verdict::No(r) = verdict {
+            return self.refused(r);
+        }
+        self.record_note(keys, marks, rows, &under, judged.count, at, ps)
     }
 }

@@ -7,15 +7,15 @@ ghost use Rattle.refusals.specs.Tests.{firstMet};
 ghost use Rattle.ledger.specs.Filing.{inContract};
 ghost use Rattle.tables.specs.Tables.{Columns, actorsIn};
 ghost use Rattle.register.specs.View.{view};
-ghost use Rattle.register.specs.Judging.{keyAt, Placed, partyTests, stepTests, placeTests, Judgeable};
+ghost use Rattle.register.specs.Judging.{keyAt, Placed, partyTests, stepTests, placeTests, Judgeable, UnderListed};
 use crate::Head;
 use calendar::steps_of;
-use judging::nets::Nets;
 use judging::nets::based;
-use judging::nets::nets_of;
+use judging::nets::pass_records;
 use judging::steps::no;
 use judging::steps::step_verdict;
 use notification::Notification;
+use refusals::Refusal;
 use refusals::StateRefusal;
 use refusals::Verdict;
 use tables::actors::ACTORS;
@@ -37,6 +37,22 @@ pub struct Places {
     pub submitter: u32,
     pub category: u32,
     pub day: u32,
+}
+
+// What a filing comes to, and how many records under its key are listed.
+pub struct Judged {
+    pub verdict: Verdict,
+    pub count: u32,
+}
+
+// A filing that is refused.
+fn refused_by(r: Refusal) -> Judged
+    ensures { λ y. ⌜ y ≡ record { verdict = Verdict.No r; count = 0 } ⌝ }
+{
+    Judged {
+        verdict: Verdict::No(r),
+        count: 0,
+    }
 }
 
 impl Head {
@@ -129,18 +145,19 @@ impl Head {
         Verdict::Pass
     }
 
-    // 32 to 35: what ceder and acquirer would have at the counted steps.
+    // 32 to 35: what ceder and acquirer would have at the counted steps. The places of the records under the key are listed.
     fn steps_fit(
         self,
+        under: &mut [u8; 256],
         keys: &[u32; 256],
         marks: &[[u8; 4]; 256],
         rows: &[[u16; 50]; 256],
         loads: &[[u16; 50]; 64],
         at: Places,
         ps: [u16; 50],
-    ) -> Verdict
-        requires { ⌜ ((cols : Columns) (loads : List (List ℕ)) → Judgeable (view self cols loads) at) ⌝ }
-        ensures { λ r. ⌜ r ≡ firstMet (stepTests (view self (record { keys = now (keys .entry); marks = now (marks .entry); rows = now (rows .entry) }) (now (loads .entry))) (keyAt at) ps) ⌝ }
+    ) -> Judged
+        requires { ⌜ ((cols : Columns) (loads : List (List ℕ)) → Judgeable (view self cols loads) at) × (length (now under) ≡ 256) ⌝ }
+        ensures { λ r. ⌜ (r .verdict ≡ firstMet (stepTests (view self (record { keys = now (keys .entry); marks = now (marks .entry); rows = now (rows .entry) }) (now (loads .entry))) (keyAt at) ps)) × UnderListed (self .records) at (now (keys .entry)) (r .count) (now (under .exit)) ⌝ }
     {
         let day = at.day;
         let number = key_number(at.ceder, at.acquirer, at.category, day);
@@ -150,51 +167,68 @@ impl Head {
         let held = self.loads;
         let ceders = held.find(load_number(at.ceder, at.category, day));
         let acquirers = held.find(load_number(at.acquirer, at.category, day));
-        let start = Nets {
-            ceder: based(row_at(loads, ceders)),
-            acquirer: based(row_at(loads, acquirers)),
-        };
-        let records = self.records;
-        let statuses = records.statuses;
-        let n = least(records.count, RECORDS);
-        let nets = nets_of(keys, marks, rows, statuses, n, number, start, first, until);
-        step_verdict(
-            nets,
-            ps,
+        let mut ceder = based(row_at(loads, ceders));
+        let mut acquirer = based(row_at(loads, acquirers));
+        let statuses = self.records.statuses;
+        let n = least(self.records.count, RECORDS);
+        let count = pass_records(
+            &mut ceder,
+            &mut acquirer,
+            under,
+            keys,
+            marks,
+            rows,
+            &statuses,
+            n,
+            number,
+            first,
+            until,
+        );
+        let verdict = step_verdict(
+            &ceder,
+            &acquirer,
+            &ps,
             held.approved_at(ceders),
             held.approved_at(acquirers),
             first,
             until,
-        )
+        );
+        Judged {
+            verdict: verdict,
+            count: count,
+        }
     }
 
-    // What a filing comes to, by its places: 20 to 36.
+    // What a filing comes to, by its places: 20 to 36. Where it passes, the places of the records under its key are listed.
     pub fn judge(
         self,
+        under: &mut [u8; 256],
         keys: &[u32; 256],
         marks: &[[u8; 4]; 256],
         rows: &[[u16; 50]; 256],
         loads: &[[u16; 50]; 64],
         at: Places,
         ps: [u16; 50],
-    ) -> Verdict
-        ensures { λ r. ⌜ r ≡ firstMet (placeTests (view self (record { keys = now (keys .entry); marks = now (marks .entry); rows = now (rows .entry) }) (now (loads .entry))) (keyAt at) (at .submitter) ps) ⌝ }
+    ) -> Judged
+        requires { ⌜ length (now under) ≡ 256 ⌝ }
+        ensures { λ r. ⌜ (r .verdict ≡ firstMet (placeTests (view self (record { keys = now (keys .entry); marks = now (marks .entry); rows = now (rows .entry) }) (now (loads .entry))) (keyAt at) (at .submitter) ps)) × (r .verdict ≡ Verdict.Pass → UnderListed (self .records) at (now (keys .entry)) (r .count) (now (under .exit))) ⌝ }
     {
         let enrolled = self.enrolled(at);
         if let Verdict::No(r) = enrolled {
-            return Verdict::No(r);
+            return refused_by(r);
         }
         let timely = self.timely(at);
         if let Verdict::No(r) = timely {
-            return Verdict::No(r);
+            return refused_by(r);
         }
-        let fits = self.steps_fit(keys, marks, rows, loads, at, ps);
-        if let Verdict::No(r) = fits {
-            return Verdict::No(r);
+        let fits = self.steps_fit(under, keys, marks, rows, loads, at, ps);
+        let verdict = fits.verdict;
+        if let Verdict::No(r) = verdict {
+            return refused_by(r);
         }
         if !(least(self.records.count, RECORDS) < RECORDS) {
-            return no(StateRefusal::Full, 0);
+            return refused_by(Refusal::State(StateRefusal::Full, 0));
         }
-        Verdict::Pass
+        fits
     }
 }

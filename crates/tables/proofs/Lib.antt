@@ -3,4 +3,6 @@ pub mod Entries
 pub mod Texts
 pub mod Placed
 pub mod Down
+pub mod Fours
+pub mod Listing
 pub mod LoadTable

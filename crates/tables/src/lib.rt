@@ -2,4 +2,5 @@
 pub mod actors;
 pub mod categories;
 pub mod loads;
+pub mod markets;
 pub mod records;

@@ -2,12 +2,12 @@
 ghost use mathlib.Core.Path.{_≡_};
 ghost use mathlib.Core.Bool.{true};
 ghost use mathlib.Core.List.{List, _∷_};
-ghost use Prim.Native.Nat.{ℕ, _<_, _≤_, _+_, _*_, _%_, _/_};
-ghost use lib.Dec.{leb};
-ghost use lib.ListN.{length, set};
+ghost use Prim.Native.Nat.{ℕ, _<_, _≤_, _+_, _-_, _*_, _%_, _/_};
+ghost use lib.Dec.{eqb, leb};
+ghost use lib.ListN.{length, getD, set};
 ghost use Rattle.lists.specs.Searches.{every};
 ghost use Rattle.notification.specs.Forms.{inPlaces};
-ghost use Rattle.tables.specs.Tables.{loadNumber, loadsIn, lastLoad, loadMost, loadRow};
+ghost use Rattle.tables.specs.Tables.{noneOfFour, lastBelow, loadNumber, loadsIn, lastLoad, loadMost, loadRow};
 use crate::actors::least;
 
 // The places for loads.
@@ -35,21 +35,52 @@ pub fn load_number(actor: u32, category: u32, day: u32) -> u32
     day * 32 + category * 8 + actor
 }
 
+// Whether a number differs from four in a row, all looked at at once.
+fn none_of_four(keys: &[u32; 64], i: u32, number: u32) -> bool
+    requires { ⌜ i + 4 ≤ 64 ⌝ }
+    ensures { λ r. ⌜ r ≡ noneOfFour (λ k. eqb (getD (now (keys .entry)) k 0) number) i ⌝ }
+{
+    let at = i as usize;
+    !(((keys[at] == number) | (keys[at + 1] == number))
+        | ((keys[at + 2] == number) | (keys[at + 3] == number)))
+}
+
+// Whether there are four numbers below i, and none of the last four is this one.
+fn passes_four(keys: &[u32; 64], i: u32, number: u32) -> bool
+    requires { ⌜ i ≤ 64 ⌝ }
+    ensures { λ r. ⌜ (r ≡ true → (4 ≤ i) × (noneOfFour (λ k. eqb (getD (now (keys .entry)) k 0) number) (i - 4) ≡ true)) ⌝ }
+{
+    if i < 4 {
+        return false;
+    }
+    none_of_four(keys, i - 4, number)
+}
+
+// The last place below n with this number.
+pub fn last_of(keys: &[u32; 64], n: u32, number: u32) -> Found
+    requires { ⌜ n ≤ 64 ⌝ }
+    ensures { λ r. ⌜ r ≡ lastBelow (λ i. eqb (getD (now (keys .entry)) i 0) number) n ⌝ }
+{
+    let mut i = n;
+    while passes_four(keys, i, number) {
+        i -= 4;
+    }
+    while 0 < i {
+        i -= 1;
+        if keys[i as usize] == number {
+            return Found::At(i);
+        }
+    }
+    Found::Nothing
+}
+
 impl Loads {
     // The newest load of this number.
     pub fn find(self, number: u32) -> Found
         ensures { λ r. ⌜ r ≡ lastLoad self number ⌝ }
     {
         let n = least(self.count, LOADS);
-        let keys = self.keys;
-        let mut i: u32 = n;
-        while 0 < i {
-            i -= 1;
-            if keys[i as usize] == number {
-                return Found::At(i);
-            }
-        }
-        Found::Nothing
+        last_of(&self.keys, n, number)
     }
 
     // The approved power of a load that was found, or 0.

@@ -1,23 +1,40 @@
--- `pairing::is_paired` meets its contract: what is known of the records passed is whether one of them is answered.
-use borrow.Author.Needs.{needs}
-use mathlib.Core.Path.{_≡_, refl, _∙_, ap}
-use Prim.Native.Nat.{_≤_, _-_}
+-- `pairing::is_paired` meets its contract: what is known of the records passed, from one listed place to the next, is whether
+-- one of them is answered.
+use mathlib.Core.Path.{_≡_, refl, sym, subst}
+use mathlib.Core.Bool.{_||_}
+use Prim.Native.Nat.{ℕ, _≤_, _-_}
 use native.Mathlib.Omega.{arith}
-use Rattle.recording.specs.Recording.{pairsBelow}
-use Rattle.recording.proofs.Changes.{pairs-next}
+use lib.ListN.{getD}
+use Rattle.ledger.specs.Filing.{answers}
+use Rattle.tables.specs.Tables.{Columns, keyIn, isUnder, reached, Listed}
+use Rattle.tables.proofs.Listing.{listed-next, listed-end, reached-more}
+use Rattle.recording.specs.Recording.{recAt, pairsBelow}
+use Rattle.recording.proofs.Changes.{pairs-next, pairs-same}
+use borrow.Author.Needs.{needs}
 use Rattle.recording.proofs.pairing.is_paired.Statement.{statement}
 use Rattle.recording.proofs.pairing.is_paired.Tie as tie
 
 abbrev Inv-loop : tie.InvT-loop
-Inv-loop statuses keys marks rows n by own ps found₀ i₀ found i =
-    (i ≤ n) × (found ≡ pairsBelow (record { keys = keys; marks = marks; rows = rows }) statuses i by own ps)
+Inv-loop statuses keys marks rows places count by own ps found₀ j₀ found j =
+    (j ≤ count)
+    × ((n : ℕ) → Listed (isUnder keys own) n count places →
+    found ≡ pairsBelow (record { keys = keys; marks = marks; rows = rows }) statuses (reached places j) by own ps)
 
 abbrev μ-loop : tie.MeasureT-loop
-μ-loop statuses keys marks rows n by own ps found₀ i₀ found i = n - i
+μ-loop statuses keys marks rows places count by own ps found₀ j₀ found j = count - j
 
 loop-holds : tie.Need-loop-holds Inv-loop μ-loop
 unfolding pairsBelow
-loop-holds c = (omega arith, refl)
+loop-holds c = (omega arith, (λ n l. refl))
+
+cast-byte : tie.Need-cast-byte Inv-loop μ-loop
+cast-byte c = search needs
+
+element-copy-out-byte : tie.Need-element-copy-out-byte Inv-loop μ-loop
+element-copy-out-byte c = search needs
+
+byte-requires : tie.Need-byte-requires Inv-loop μ-loop
+byte-requires c κs = search needs
 
 cast-at : tie.Need-cast-at Inv-loop μ-loop
 cast-at c = search needs
@@ -46,28 +63,40 @@ element-copy-out-is-answered-2 c = search needs
 is-answered-requires : tie.Need-is-answered-requires Inv-loop μ-loop
 is-answered-requires c κs = search needs
 
-add-i : tie.Need-add-i Inv-loop μ-loop
-add-i c = search needs
+add-j : tie.Need-add-j Inv-loop μ-loop
+add-j c = search needs
 
 loop-less : tie.Need-loop-less Inv-loop μ-loop
 loop-less c = search needs
 
 loop-again : tie.Need-loop-again Inv-loop μ-loop
 loop-again c =
-    let p = c .before .before .before .before .before .before .before .args in
-    let q = c .before .before .before .before .before .before .loop in (
+    let p = c .before .before .before .before .before .before .before .before .before .args in
+    let q = c .before .before .before .before .before .before .before .before .loop in
+    let cols : Columns = record { keys = p .keys .now; marks = p .marks .now; rows = p .rows .now } in
+    let i = getD (p .places .now) (q .j) 0 in (
       omega arith,
-      pairs-next (record { keys = p .keys .now; marks = p .marks .now; rows = p .rows .now }) (p .statuses .now) (q .i) (p .by) (p .own)
-          (p .ps) _ (q .found) (c .is-answered .ensures) (q .inv .1),
+      (λ n l.
+          let before = listed-next (isUnder (p .keys .now) (p .own)) n (p .count) (p .places .now) l
+          (λ i. q .found ≡ pairsBelow cols (p .statuses .now) i (p .by) (p .own) (p .ps))
+          (λ i e f. pairs-same cols (p .statuses .now) i (p .by) (p .own) (p .ps) (q .found) e f)
+          (q .j) (omega arith) (q .inv .1 n l) in
+          let here = subst (λ i. c .is-answered .result ≡ answers (p .by) (keyIn (p .own)) (p .ps) (recAt cols (p .statuses .now) 0 i)) (c .before .before .before .before .before .byte .ensures .0) (c .is-answered .ensures) in
+          subst (λ m. (c .is-answered .result || q .found) ≡ pairsBelow cols (p .statuses .now) m (p .by) (p .own) (p .ps)) (sym (reached-more (p .places .now) (q .j)))
+          (pairs-next cols (p .statuses .now) i (p .by) (p .own) (p .ps) _ (q .found) here before)),
     )
 
 returns : tie.Need-returns Inv-loop μ-loop
 returns c =
     let p = c .before .before .args in
     let q = c .before .loop in
-    let e : q .i ≡ p .n = omega arith in
-    q .inv .1 ∙ ap (λ m. pairsBelow (record { keys = p .keys .now; marks = p .marks .now; rows = p .rows .now }) (p .statuses .now) m
-    (p .by) (p .own) (p .ps)) e
+    let cols : Columns = record { keys = p .keys .now; marks = p .marks .now; rows = p .rows .now } in
+    let e : q .j ≡ p .count = omega arith in
+    λ n l.
+    listed-end (isUnder (p .keys .now) (p .own)) n (p .count) (p .places .now) l
+    (λ i. q .found ≡ pairsBelow cols (p .statuses .now) i (p .by) (p .own) (p .ps))
+    (λ i e f. pairs-same cols (p .statuses .now) i (p .by) (p .own) (p .ps) (q .found) e f)
+    (subst (λ j. q .found ≡ pairsBelow cols (p .statuses .now) (reached (p .places .now) j) (p .by) (p .own) (p .ps)) e (q .inv .1 n l))
 
 pub is-paired-spec : {M : Type 1} → statement M
 is-paired-spec =
@@ -76,6 +105,9 @@ is-paired-spec =
     Inv-loop
     μ-loop
     loop-holds
+    cast-byte
+    element-copy-out-byte
+    byte-requires
     cast-at
     mul-mark
     element-copy-out-mark
@@ -85,7 +117,7 @@ is-paired-spec =
     mul-is-answered
     element-copy-out-is-answered-2
     is-answered-requires
-    add-i
+    add-j
     loop-less
     loop-again
     returns)

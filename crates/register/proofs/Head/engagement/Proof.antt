@@ -75,7 +75,7 @@ add-totals-of c = search needs
 
 totals-of-requires : tie.Need-totals-of-requires
 totals-of-requires c κs =
-    let n = c .least3 .ensures in
+    let n = c .before .least3 .ensures in
     (omega arith, (asked-step (c .before .before .before .before .before .before .before .before .before .before .before .before .before .before .before .before .before .before .before .args .day) (c .before .before .before .before .before .before .before .before .before .before .before .before .before .before .before .before .before .before .before .args .step) _ (c .before .before .before .before .before .before .before .before .steps-of .ensures) (c .before .before .before .before .before .before .before .if3 .left)))
 
 mul-wide : tie.Need-mul-wide
@@ -101,7 +101,7 @@ returns-4 c =
     let hn = head-actors (a .args .self) _ (a .good .0) in
     let hm = head-categories (a .args .self) _ (a .good .0) in
     engaged-power (a .args .self) _ _ _ _ (a .args .day) (a .args .step) _ _ (hn ∙ sym (c .before .before .before .before .before .before .before .before .before .before .before .before .before .before .before .before .before .before .least .ensures)) (c .before .before .before .before .before .before .before .before .before .before .before .before .before .before .before .before .before .before .before .place .ensures) _ _ (c .before .before .before .before .before .before .before .before .before .before .before .before .before .before .before .before .before .if1 .left) (hm ∙ sym (c .before .before .before .before .before .before .before .before .before .before .before .before .before .before .least2 .ensures)) (c .before .before .before .before .before .before .before .before .before .before .before .before .before .before .before .place2 .ensures) _ (c .before .before .before .before .before .before .before .before .before .before .before .before .before .if2 .left) (c .before .before .before .before .before .before .before .before .before .before .before .before .steps-of .ensures) _ (c .before .before .before .before .before .before .before .before .before .before .before .if3 .left)
-    (c .less .ensures ∙ engaged-by (a .args .self) _ _ _ _ (a .args .day) (a .args .step) _ _ _ _ _ _ _ (place-below _ _ _ 8 (c .before .before .before .before .before .before .before .before .before .before .before .before .before .before .before .before .before .before .least .ensures) (c .before .before .before .before .before .before .before .before .before .before .before .before .before .before .before .before .before .if1 .left)) (place-below _ _ _ 4 (c .before .before .before .before .before .before .before .before .before .before .before .before .before .before .least2 .ensures) (c .before .before .before .before .before .before .before .before .before .before .before .before .before .if2 .left)) (c .before .before .before .before .before .before .before .before .before .load-number .ensures) (c .before .before .before .before .before .before .before .before .find .ensures) (c .before .before .before .before .before .before .before .row-at .ensures) (c .before .before .wide .ensures .0) (c .before .before .before .before .least3 .ensures) (c .before .before .before .totals-of .ensures .0 .0) (c .before .before .before .totals-of .ensures .0 .1))
+    (c .less .ensures ∙ engaged-by (a .args .self) _ _ _ _ (a .args .day) (a .args .step) _ _ _ _ _ _ _ (place-below _ _ _ 8 (c .before .before .before .before .before .before .before .before .before .before .before .before .before .before .before .before .before .before .least .ensures) (c .before .before .before .before .before .before .before .before .before .before .before .before .before .before .before .before .before .if1 .left)) (place-below _ _ _ 4 (c .before .before .before .before .before .before .before .before .before .before .before .before .before .before .least2 .ensures) (c .before .before .before .before .before .before .before .before .before .before .before .before .before .if2 .left)) (c .before .before .before .before .before .before .before .before .before .load-number .ensures) (c .before .before .before .before .before .before .before .before .find .ensures) (c .before .before .before .before .before .before .before .row-at .ensures) (c .before .before .wide .ensures .0) (c .before .before .before .before .before .least3 .ensures) (c .before .before .before .totals-of .ensures .0 .0) (c .before .before .before .totals-of .ensures .0 .1))
 
 pub engagement-spec : {M : Type 1} → statement M
 engagement-spec =

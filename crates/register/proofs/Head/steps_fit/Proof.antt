@@ -4,12 +4,13 @@ use mathlib.Core.List.{[]}
 use native.Mathlib.Omega.{arith}
 use Rattle.calendar.proofs.StepCounts.{steps-small}
 use Rattle.register.proofs.Fits.{noColumns, counted-of, head-most, fits-is}
+use Rattle.register.proofs.Records.{under-listed}
 use borrow.Author.Needs.{needs}
 use Rattle.register.proofs.Head.steps_fit.Statement.{statement}
 use Rattle.register.proofs.Head.steps_fit.Tie as tie
 
 key-number-requires : tie.Need-key-number-requires
-key-number-requires c κs = let j = c .pre noColumns [] in (j .ceder, j .acquirer, j .category, j .day)
+key-number-requires c κs = let j = c .pre .0 noColumns [] in (j .ceder, j .acquirer, j .category, j .day)
 
 first-counted-requires : tie.Need-first-counted-requires
 first-counted-requires c κs = search needs
@@ -18,13 +19,13 @@ steps-of-requires : tie.Need-steps-of-requires
 steps-of-requires c κs = search needs
 
 load-number-requires : tie.Need-load-number-requires
-load-number-requires c κs = let j = c .before .before .before .before .before .pre noColumns [] in (j .ceder, j .category, j .day)
+load-number-requires c κs = let j = c .before .before .before .before .before .pre .0 noColumns [] in (j .ceder, j .category, j .day)
 
 find-requires : tie.Need-find-requires
 find-requires c κs = search needs
 
 load-number-requires-2 : tie.Need-load-number-requires-2
-load-number-requires-2 c κs = let j = c .before .before .before .before .before .before .before .pre noColumns [] in (j .acquirer, j .category, j .day)
+load-number-requires-2 c κs = let j = c .before .before .before .before .before .before .before .pre .0 noColumns [] in (j .acquirer, j .category, j .day)
 
 find-requires-2 : tie.Need-find-requires-2
 find-requires-2 c κs = search needs
@@ -44,12 +45,13 @@ based-requires-2 c κs = search needs
 least-requires : tie.Need-least-requires
 least-requires c κs = search needs
 
-nets-of-requires : tie.Need-nets-of-requires
-nets-of-requires c κs = (
-  omega (arith, c .least .ensures),
-  omega (arith, c .before .before .before .before .before .before .before .before .before .before .before .before .steps-of .ensures, steps-small (c .before .before .before .before .before .before .before .before .before .before .before .before .before .before .before .before .args .at .day)),
-  c .before .before .before .before .before .based .ensures .between,
-  c .before .before .before .based2 .ensures .between,
+pass-records-requires : tie.Need-pass-records-requires
+pass-records-requires c κs = (
+  omega (arith, c .before .before .before .before .least .ensures),
+  omega (arith, c .before .before .before .before .before .before .before .before .before .before .before .before .before .before .before .steps-of .ensures, steps-small (c .before .before .before .before .before .before .before .before .before .before .before .before .before .before .before .before .before .before .before .args .at .day)),
+  c .before .before .before .before .before .before .before .before .based .ensures .between,
+  c .before .before .before .before .before .before .based2 .ensures .between,
+  c .before .before .before .before .before .before .before .before .before .before .before .before .before .before .before .before .before .before .before .pre .1,
 )
 
 approved-at-requires : tie.Need-approved-at-requires
@@ -60,27 +62,29 @@ approved-at-requires-2 c κs = search needs
 
 step-verdict-requires : tie.Need-step-verdict-requires
 step-verdict-requires c κs =
-    let a = c .before .before .before .before .before .before .before .before .before .before .before .before .before .before .before .before .before .before .before in
+    let a = c .before .before .before .before .before .before .before .before .before .before .before .before .before .before .before .before .before .before .before .before .before .before .before .before .before in
     let h = a .args .self in (
-      omega (arith, c .before .before .before .before .before .before .before .before .before .before .before .before .before .before .before .before .first-counted .ensures, c .before .before .before .before .before .before .before .before .before .before .before .before .before .before .before .steps-of .ensures, counted-of h noColumns [] (a .args .at) (a .pre noColumns [])),
-      omega (arith, c .before .before .before .before .before .before .before .before .before .before .before .before .before .before .before .steps-of .ensures, steps-small (a .args .at .day)),
-      omega (arith, c .before .approved-at .ensures, head-most h _ (a .good .0) (c .before .before .before .before .before .before .before .before .before .before .before .before .find .result)),
-      omega (arith, c .approved-at2 .ensures, head-most h _ (a .good .0) (c .before .before .before .before .before .before .before .before .before .before .find2 .result)),
-      c .before .before .nets-of .ensures .acquirer-high,
+      omega (arith, c .before .before .before .before .before .before .before .before .before .before .before .before .before .before .before .before .before .before .before .before .before .before .first-counted .ensures, c .before .before .before .before .before .before .before .before .before .before .before .before .before .before .before .before .before .before .before .before .before .steps-of .ensures, counted-of h noColumns [] (a .args .at) (a .pre .0 noColumns [])),
+      omega (arith, c .before .before .before .before .before .before .before .before .before .before .before .before .before .before .before .before .before .before .before .before .before .steps-of .ensures, steps-small (a .args .at .day)),
+      omega (arith, c .before .approved-at .ensures, head-most h _ (a .good .0) (c .before .before .before .before .before .before .before .before .before .before .before .before .before .before .before .before .before .before .find .result)),
+      omega (arith, c .approved-at2 .ensures, head-most h _ (a .good .0) (c .before .before .before .before .before .before .before .before .before .before .before .before .before .before .before .before .find2 .result)),
+      c .before .before .before .before .before .pass-records .ensures .0 .acquirer-high,
     )
 
 returns : tie.Need-returns
 returns c =
-    let a = c .before .before .before .before .before .before .before .before .before .before .before .before .before .before .before .before .before .before .before .before in
-    c .step-verdict .ensures
-    ∙ fits-is (a .args .self) _ _ (a .args .at) (a .args .ps) (a .pre _ _)
-    _ (c .before .before .before .before .before .before .before .before .before .before .before .before .before .before .before .before .before .before .before .key-number .ensures .0)
-    _ _ (c .before .before .before .before .before .before .before .before .before .before .before .before .before .before .before .before .before .first-counted .ensures) (c .before .before .before .before .before .before .before .before .before .before .before .before .before .before .before .before .steps-of .ensures)
-    _ _ (c .before .before .before .before .before .before .before .before .before .before .before .before .before .before .load-number .ensures) (c .before .before .before .before .before .before .before .before .before .before .before .before .load-number2 .ensures)
-    _ _ (c .before .before .before .before .before .before .before .before .before .before .before .before .before .find .ensures) (c .before .before .before .before .before .before .before .before .before .before .before .find2 .ensures)
-    _ (c .before .before .before .before .least .ensures) _ _ (c .before .before .before .nets-of .ensures)
-    _ _ (c .before .before .before .before .before .before .before .before .before .before .row-at .ensures) (c .before .before .before .before .before .before .before .before .before .based .ensures) (c .before .before .before .before .before .before .before .before .row-at2 .ensures) (c .before .before .before .before .before .before .before .based2 .ensures)
-    _ _ (c .before .before .approved-at .ensures) (c .before .approved-at2 .ensures)
+    let a = c .before .before .before .before .before .before .before .before .before .before .before .before .before .before .before .before .before .before .before .before .before .before .before .before .before .before in (
+      c .step-verdict .ensures
+          ∙ fits-is (a .args .self) _ _ (a .args .at) (a .args .t8) (a .pre .0 _ _)
+          _ (c .before .before .before .before .before .before .before .before .before .before .before .before .before .before .before .before .before .before .before .before .before .before .before .before .before .key-number .ensures .0)
+          _ _ (c .before .before .before .before .before .before .before .before .before .before .before .before .before .before .before .before .before .before .before .before .before .before .before .first-counted .ensures) (c .before .before .before .before .before .before .before .before .before .before .before .before .before .before .before .before .before .before .before .before .before .before .steps-of .ensures)
+          _ _ (c .before .before .before .before .before .before .before .before .before .before .before .before .before .before .before .before .before .before .before .before .load-number .ensures) (c .before .before .before .before .before .before .before .before .before .before .before .before .before .before .before .before .before .before .load-number2 .ensures)
+          _ _ (c .before .before .before .before .before .before .before .before .before .before .before .before .before .before .before .before .before .before .before .find .ensures) (c .before .before .before .before .before .before .before .before .before .before .before .before .before .before .before .before .before .find2 .ensures)
+          _ (c .before .before .before .before .before .before .before .before .before .before .before .least .ensures) _ _ (c .before .before .before .before .before .before .pass-records .ensures .0)
+          _ _ (c .before .before .before .before .before .before .before .before .before .before .before .before .before .before .before .before .row-at .ensures) (c .before .before .before .before .before .before .before .before .before .before .before .before .before .before .before .based .ensures) (c .before .before .before .before .before .before .before .before .before .before .before .before .before .before .row-at2 .ensures) (c .before .before .before .before .before .before .before .before .before .before .before .before .before .based2 .ensures)
+          _ _ (c .before .before .approved-at .ensures) (c .before .approved-at2 .ensures),
+      under-listed (a .args .self) (a .args .at) _ (c .before .before .before .before .before .before .before .before .before .before .before .before .before .before .before .before .before .before .before .before .before .before .before .before .before .key-number .ensures .0) (a .args .keys .now) _ _ _ (c .before .before .before .before .before .before .before .before .before .before .before .least .ensures) (c .before .before .before .before .before .before .pass-records .ensures .1),
+    )
 
 pub steps-fit-spec : {M : Type 1} → statement M
 steps-fit-spec =
@@ -98,7 +102,7 @@ steps-fit-spec =
     row-at-requires-2
     based-requires-2
     least-requires
-    nets-of-requires
+    pass-records-requires
     approved-at-requires
     approved-at-requires-2
     step-verdict-requires

@@ -1,0 +1,22 @@
+-- Four are there, and none of them is meant.
+use mathlib.Core.Path.{sym, _∙_}
+use native.Mathlib.Omega.{arith}
+use mathlib.Core.Bool.{false≢true}
+use borrow.Author.Needs.{needs}
+use Rattle.tables.proofs.markets.passes_four.Statement.{statement}
+use Rattle.tables.proofs.markets.passes_four.Tie as tie
+
+add-if1 : tie.Need-add-if1
+add-if1 c = search needs
+
+returns : tie.Need-returns
+returns c = λ e. absurd (false≢true e)
+
+none-of-four-requires : tie.Need-none-of-four-requires
+none-of-four-requires c κs = search needs
+
+returns-2 : tie.Need-returns-2
+returns-2 c = λ e. (omega arith, sym (c .none-of-four .ensures) ∙ e)
+
+pub passes-four-spec : {M : Type 1} → statement M
+passes-four-spec = tie.close (tie.spec add-if1 returns none-of-four-requires returns-2)
