@@ -2,6 +2,7 @@
 ghost use Prim.Native.Nat.{_≤_};
 ghost use lib.ListN.{length};
 use crate::bodies::body_of;
+use crate::lines::BLOCK;
 use crate::lines::LF;
 use crate::lines::flush;
 use crate::lines::line_end;
@@ -35,7 +36,7 @@ fn answer_block(
     number: u64,
     input: &[u8],
     end: usize,
-    output: &mut [u8; 65536],
+    output: &mut [u8; BLOCK],
 ) -> Block
     requires { ⌜ end ≤ length (now input) ⌝ }
     ensures { λ r. ⌜ r .at ≤ end ⌝ }
@@ -74,7 +75,7 @@ fn answer_block(
 }
 
 // Moves the bytes of a line whose end hasn't come yet to the front, and answers how many they are.
-fn keep(input: &mut [u8; 65536], from: usize, to: usize) -> usize
+fn keep(input: &mut [u8; BLOCK], from: usize, to: usize) -> usize
     requires { ⌜ (from ≤ to) × (to ≤ 65536) ⌝ }
     ensures { λ r. ⌜ r ≤ 513 ⌝ }
 {
@@ -107,8 +108,8 @@ pub fn run(
     loads: &mut [[u16; 50]; 64],
     powers: &mut [u32; 256],
     body: &mut [u8],
-    input: &mut [u8; 65536],
-    output: &mut [u8; 65536],
+    input: &mut [u8; BLOCK],
+    output: &mut [u8; BLOCK],
 ) {
     let mut head = Head::fresh();
     let mut number: u64 = 0;

@@ -5,8 +5,8 @@ use answers::Said;
 use libc::STDOUT_FILENO;
 use script::writing::write_answer;
 
-// The most bytes that are written at once.
-const ROOM: usize = 65536;
+// The most bytes that are read or written at once.
+pub const BLOCK: usize = 65536;
 
 // The most bytes of an answer's line.
 const LINE_ROOM: usize = 64;
@@ -37,31 +37,24 @@ pub fn flush(output: &[u8], out: usize)
 }
 
 // Where the next answer goes: behind those that wait, or first, once these are written, where there is no room behind them.
-fn room_for(output: &[u8; 65536], out: usize) -> usize
+fn room_for(output: &[u8; BLOCK], out: usize) -> usize
     requires { ⌜ out ≤ 65536 ⌝ }
     ensures { λ r. ⌜ r + 64 ≤ 65536 ⌝ }
 {
-    if LINE_ROOM <= ROOM - out {
+    if LINE_ROOM <= BLOCK - out {
         return out;
     }
     flush(output, out);
     0
 }
 
-// How many bytes of an answer's line there are.
-fn within(n: u32) -> usize
-    ensures { λ r. ⌜ r ≤ 64 ⌝ }
-{
-    if n <= 64 { n as usize } else { LINE_ROOM }
-}
-
 // Puts a line that answers behind those that wait, and gives where the next goes.
-pub fn put(output: &mut [u8; 65536], out: usize, number: u64, said: Said) -> usize
+pub fn put(output: &mut [u8; BLOCK], out: usize, number: u64, said: Said) -> usize
     requires { ⌜ out ≤ 65536 ⌝ }
     ensures { λ r. ⌜ r ≤ 65536 ⌝ }
 {
     let mut text = [0u8; 64];
-    let n = within(write_answer(number, said, &mut text));
+    let n = write_answer(number, said, &mut text) as usize;
     let at = room_for(&*output, out);
     let mut i: usize = 0;
     while i < LINE_ROOM {

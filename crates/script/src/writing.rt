@@ -79,7 +79,7 @@ fn put_answer(out: &mut [u8], number: u64, said: Said) -> usize
 
 // Writes the line that answers at the beginning of a lent buffer, the rest untouched, and gives its length.
 pub fn write_answer(number: u64, said: Said, out: &mut [u8; 64]) -> u32
-    ensures { λ r. ⌜ (now (out .exit) ≡ sets (now (out .entry)) 0 (answerLine number said)) × (r ≡ length (answerLine number said)) ⌝ }
+    ensures { λ r. ⌜ (now (out .exit) ≡ sets (now (out .entry)) 0 (answerLine number said)) × (r ≡ length (answerLine number said)) × (r ≤ 64) ⌝ }
 {
     put_answer(out, number, said) as u32
 }

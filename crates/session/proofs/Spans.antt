@@ -10,13 +10,16 @@ use Rattle.ledger.specs.Ledger.{Ledger}
 use Rattle.ledger.specs.Call as Call
 use Rattle.ledger.specs.Calls.{step}
 use Rattle.ledger.specs.Asking.{askEngagement, askRecord}
+use Rattle.answers.specs.declared.Said.{Said}
 use Rattle.answers.specs.Values.{saidEngaged, saidShown, saidRefused}
 use Rattle.turns.specs.Told.{Told, told}
-use Rattle.script.specs.Lines.{Asked}
+use Rattle.lists.proofs.Tests.{true-false}
+use Rattle.script.specs.Lines.{Asked, advance, enrolActor, enrolCategory, load, file, engagement, recordOf, unknown}
 use Rattle.script.specs.Spans.{cut, asked, Within, Read}
 use Rattle.script.specs.declared.reading.Line.{Line}
 use Rattle.script.specs.declared.reading.Line.the-variants.{Advance, EnrolActor, EnrolCategory, Load, File, Engagement, RecordOf, Unknown}
-use Rattle.session.specs.Lines.{only, noCall, lineStep}
+use Rattle.session.specs.declared.asking.Asking.{Asking}
+use Rattle.session.specs.Lines.{only, noCall, onlyAsks, askStep, lineStep}
 
 -- a part that goes to the end of the line is all of its rest
 rest-all : (at : ℕ) (line : List ℕ) → take (length line - at) (drop at line) ≡ drop at line
@@ -70,17 +73,6 @@ module _ (l : Ledger) (readable : Bool) (body line powers : List ℕ) where
   unfolding asked lineStep
   file-line submitter = ap (λ name. told (step l (Call.file (cut line 2 submitter) name body))) (rest-all (submitter + 1) line)
 
-  pub engagement-line : (actor category day s : ℕ) →
-      only l (saidEngaged (askEngagement l (cut line 2 actor) (cut line (actor + 1) category) day s))
-      ≡ lineStep l readable body (asked line (Engagement actor category day s) powers)
-  unfolding asked lineStep
-  engagement-line actor category day s = refl
-
-  pub record-line : (asker id : ℕ) →
-      only l (saidShown (askRecord l (cut line 2 asker) id)) ≡ lineStep l readable body (asked line (RecordOf asker id) powers)
-  unfolding asked lineStep
-  record-line asker id = refl
-
   -- a file that can't be read
   pub unreadable-line : (submitter : ℕ) → not readable ≡ true →
       lineStep l readable body (asked line Unknown powers) ≡ lineStep l readable body (asked line (File submitter) powers)
@@ -91,6 +83,78 @@ module _ (l : Ledger) (readable : Bool) (body line powers : List ℕ) where
   pub answered : {r form : Line} {before : List ℕ} {a : Asked} {x : Told} → Read line before r powers a → r ≡ form →
       x ≡ lineStep l readable body (asked line form powers) → x ≡ lineStep l readable body a
   answered w e s = s ∙ ap (lineStep l readable body) (ap (λ y. asked line y powers) (sym e) ∙ w .says)
+
+-- the two parts of what is told of a line that may only ask
+pub asks-as : {x : Asking} {a b : Bool} {y z : Said} → x ≡ record { asks = a; said = y } → (a ≡ b) × (y ≡ z) → (x .asks ≡ b) × (x .said ≡ z)
+asks-as e p = (ap (λ x. x .asks) e ∙ p .0, ap (λ x. x .said) e ∙ p .1)
+
+pub asks-said : {a b : Bool} {x y z : Said} → (a ≡ b) × (y ≡ z) → x ≡ z → (a ≡ b) × (x ≡ z)
+asks-said p e = (p .0, e)
+
+-- what a line that only asks says, by what was read of it
+module _ (l : Ledger) (line powers : List ℕ) where
+  pub asks-by : {r form : Line} {before : List ℕ} {a : Asked} {asks : Bool} {said : Said} → Read line before r powers a → r ≡ form →
+      (asks ≡ onlyAsks (asked line form powers)) × (said ≡ askStep l (asked line form powers)) → (asks ≡ onlyAsks a) × (said ≡ askStep l a)
+  asks-by w e s =
+      let q = ap (λ y. asked line y powers) (sym e) ∙ w .says in
+      (s .0 ∙ ap onlyAsks q, s .1 ∙ ap (askStep l) q)
+
+  pub asks-advance : (day minute : ℕ) → (false ≡ onlyAsks (asked line (Advance day minute) powers)) × (saidRefused noCall ≡ askStep l (asked line (Advance day minute) powers))
+  unfolding asked onlyAsks askStep
+  asks-advance day minute = (refl, refl)
+
+  pub asks-actor : (code first last : ℕ) → (false ≡ onlyAsks (asked line (EnrolActor code first last) powers)) × (saidRefused noCall ≡ askStep l (asked line (EnrolActor code first last) powers))
+  unfolding asked onlyAsks askStep
+  asks-actor code first last = (refl, refl)
+
+  pub asks-category : (false ≡ onlyAsks (asked line EnrolCategory powers)) × (saidRefused noCall ≡ askStep l (asked line EnrolCategory powers))
+  unfolding asked onlyAsks askStep
+  asks-category = (refl, refl)
+
+  pub asks-load : (actor category day approved count : ℕ) →
+      (false ≡ onlyAsks (asked line (Load actor category day approved count) powers)) × (saidRefused noCall ≡ askStep l (asked line (Load actor category day approved count) powers))
+  unfolding asked onlyAsks askStep
+  asks-load actor category day approved count = (refl, refl)
+
+  pub asks-file : (submitter : ℕ) → (false ≡ onlyAsks (asked line (File submitter) powers)) × (saidRefused noCall ≡ askStep l (asked line (File submitter) powers))
+  unfolding asked onlyAsks askStep
+  asks-file submitter = (refl, refl)
+
+  pub asks-engagement : (actor category day s : ℕ) →
+      (true ≡ onlyAsks (asked line (Engagement actor category day s) powers)) ×
+      (saidEngaged (askEngagement l (cut line 2 actor) (cut line (actor + 1) category) day s) ≡ askStep l (asked line (Engagement actor category day s) powers))
+  unfolding asked onlyAsks askStep
+  asks-engagement actor category day s = (refl, refl)
+
+  pub asks-record : (asker id : ℕ) →
+      (true ≡ onlyAsks (asked line (RecordOf asker id) powers)) × (saidShown (askRecord l (cut line 2 asker) id) ≡ askStep l (asked line (RecordOf asker id) powers))
+  unfolding asked onlyAsks askStep
+  asks-record asker id = (refl, refl)
+
+  pub asks-unknown : (true ≡ onlyAsks (asked line Unknown powers)) × (saidRefused noCall ≡ askStep l (asked line Unknown powers))
+  unfolding asked onlyAsks askStep
+  asks-unknown = (refl, refl)
+
+-- A LINE THAT ONLY ASKS is answered as the definition of a line's step has it
+pub asks-only : (l : Ledger) (readable : Bool) (body : List ℕ) (a : Asked) → onlyAsks a ≡ true → lineStep l readable body a ≡ only l (askStep l a)
+unfolding onlyAsks askStep lineStep
+asks-only l readable body (advance day minute) e = true-false true refl (sym e)
+asks-only l readable body (enrolActor code first last) e = true-false true refl (sym e)
+asks-only l readable body (enrolCategory text) e = true-false true refl (sym e)
+asks-only l readable body (load actor category day approved powers) e = true-false true refl (sym e)
+asks-only l readable body (file submitter name) e = true-false true refl (sym e)
+asks-only l readable body (engagement actor category day s) e = refl
+asks-only l readable body (recordOf asker id) e = refl
+asks-only l readable body unknown e = refl
+
+module _ (l : Ledger) (readable : Bool) (body line powers : List ℕ) where
+  pub engagement-line : (actor category day s : ℕ) →
+      only l (askStep l (asked line (Engagement actor category day s) powers)) ≡ lineStep l readable body (asked line (Engagement actor category day s) powers)
+  engagement-line actor category day s = sym (asks-only l readable body _ (sym (asks-engagement l line powers actor category day s .0)))
+
+  pub record-line : (asker id : ℕ) →
+      only l (askStep l (asked line (RecordOf asker id) powers)) ≡ lineStep l readable body (asked line (RecordOf asker id) powers)
+  record-line asker id = sym (asks-only l readable body _ (sym (asks-record l line powers asker id .0)))
 
 -- the spans of a line that was read lie in it
 pub within-form : {line before powers : List ℕ} {r form : Line} {a : Asked} → Read line before r powers a → r ≡ form → Within (length line) form

@@ -1,5 +1,5 @@
 -- WHAT A LINE OF THE SCRIPT DOES to the ledger, and what it says (document 01, "The script program"): its call, or 11.
-use mathlib.Core.Bool.{Bool, cond}
+use mathlib.Core.Bool.{Bool, true, false, cond}
 use mathlib.Core.List.{List}
 use Prim.Native.Nat.{ℕ}
 use Rattle.ledger.specs.Ledger.{Ledger}
@@ -18,6 +18,28 @@ noCall = 11
 -- what leaves the ledger as it was
 abbrev pub only : Ledger → Said → Told
 only l said = record { ledger = l; said = said }
+
+-- a line that asks for an engagement or a record, or of no known form, leaves the ledger as it was
+unfoldable pub onlyAsks : Asked → Bool
+onlyAsks (advance day minute) = false
+onlyAsks (enrolActor code first last) = false
+onlyAsks (enrolCategory text) = false
+onlyAsks (load actor category day approved powers) = false
+onlyAsks (file submitter name) = false
+onlyAsks (engagement actor category day s) = true
+onlyAsks (recordOf asker id) = true
+onlyAsks unknown = true
+
+-- what such a line says; 11 stands for every other line
+unfoldable pub askStep : Ledger → Asked → Said
+askStep l (advance day minute) = saidRefused noCall
+askStep l (enrolActor code first last) = saidRefused noCall
+askStep l (enrolCategory text) = saidRefused noCall
+askStep l (load actor category day approved powers) = saidRefused noCall
+askStep l (file submitter name) = saidRefused noCall
+askStep l (engagement actor category day s) = saidEngaged (askEngagement l actor category day s)
+askStep l (recordOf asker id) = saidShown (askRecord l asker id)
+askStep l unknown = saidRefused noCall
 
 -- `readable`: whether the file that the line names can be read; `body`: its bytes
 unfoldable pub lineStep : Ledger → Bool → List ℕ → Asked → Told

@@ -4,14 +4,28 @@ ghost use mathlib.Core.Bool.{Bool};
 ghost use mathlib.Core.List.{List};
 ghost use Prim.Native.Nat.{ℕ};
 ghost use lib.ListN.{length};
+ghost use lib.Seq.{sets};
+ghost use Rattle.answers.specs.Values.{saidRefused};
 ghost use Rattle.register.specs.View.{view};
 ghost use Rattle.script.specs.Spans.{asked, Within};
-ghost use Rattle.session.specs.Lines.{only, lineStep};
+ghost use Rattle.script.specs.Lines.{lineOf, powersOf};
+ghost use Rattle.session.specs.Lines.{onlyAsks, askStep};
 use answers::Said;
 use answers::of_engaged;
 use answers::of_shown;
+use answers::refused;
 use register::Head;
 use script::reading::Line;
+use script::reading::read_line;
+
+// What a line of no known form is refused by.
+const NO_CALL: u32 = 11;
+
+// Whether a line only asks, and what it then says.
+pub struct Asking {
+    pub asks: bool,
+    pub said: Said,
+}
 
 // `E,actor,category,date,step`
 pub(crate) fn engagement(
@@ -27,7 +41,7 @@ pub(crate) fn engagement(
     step: u32,
 ) -> Said
     requires { ⌜ Within (length (now line)) (Line.Engagement actor category day step) ⌝ }
-    ensures { λ r. ⌜ ((readable : Bool) (body powers : List ℕ) → only (view head (record { keys = now (keys .entry); marks = now (marks .entry); rows = now (rows .entry) }) (now (loads .entry))) r ≡ lineStep (view head (record { keys = now (keys .entry); marks = now (marks .entry); rows = now (rows .entry) }) (now (loads .entry))) readable body (asked (now (line .entry)) (Line.Engagement actor category day step) powers)) ⌝ }
+    ensures { λ r. ⌜ ((powers : List ℕ) → r ≡ askStep (view head (record { keys = now (keys .entry); marks = now (marks .entry); rows = now (rows .entry) }) (now (loads .entry))) (asked (now (line .entry)) (Line.Engagement actor category day step) powers)) ⌝ }
 {
     let first: usize = 2;
     let end = actor as usize;
@@ -57,10 +71,65 @@ pub(crate) fn record(
     id: u32,
 ) -> Said
     requires { ⌜ Within (length (now line)) (Line.RecordOf asker id) ⌝ }
-    ensures { λ r. ⌜ ((loads : List (List ℕ)) (readable : Bool) (body powers : List ℕ) → only (view head (record { keys = now (keys .entry); marks = now (marks .entry); rows = now (rows .entry) }) loads) r ≡ lineStep (view head (record { keys = now (keys .entry); marks = now (marks .entry); rows = now (rows .entry) }) loads) readable body (asked (now (line .entry)) (Line.RecordOf asker id) powers)) ⌝ }
+    ensures { λ r. ⌜ ((loads : List (List ℕ)) (powers : List ℕ) → r ≡ askStep (view head (record { keys = now (keys .entry); marks = now (marks .entry); rows = now (rows .entry) }) loads) (asked (now (line .entry)) (Line.RecordOf asker id) powers)) ⌝ }
 {
     let first: usize = 2;
     let end = asker as usize;
     let answer = head.record(keys, marks, rows, &line[first..end], id);
     of_shown(answer)
+}
+
+// A line that is a call of demand 3's list.
+fn a_call() -> Asking
+    ensures { λ r. ⌜ r ≡ record { asks = Bool.false; said = saidRefused 11 } ⌝ }
+{
+    Asking {
+        asks: false,
+        said: refused(NO_CALL),
+    }
+}
+
+// Answers a line that only asks, and tells it from one that is a call. The powers of a load are put into lent places, as `answer` does.
+pub fn ask(
+    head: Head,
+    keys: &[u32; 256],
+    marks: &[[u8; 4]; 256],
+    rows: &[[u16; 50]; 256],
+    loads: &[[u16; 50]; 64],
+    powers: &mut [u32; 256],
+    line: &[u8],
+) -> Asking
+    ensures { λ r. ⌜ ((r .asks ≡ onlyAsks (lineOf (now (line .entry)))) × (r .said ≡ askStep (view head (record { keys = now (keys .entry); marks = now (marks .entry); rows = now (rows .entry) }) (now (loads .entry))) (lineOf (now (line .entry))))) × (now (powers .exit) ≡ sets (now (powers .entry)) 0 (powersOf (lineOf (now (line .entry))))) ⌝ }
+{
+    let asked = read_line(line, powers);
+    match asked {
+        Line::Advance(day, minute) => a_call(),
+        Line::EnrolActor(code, first, last) => a_call(),
+        Line::EnrolCategory => a_call(),
+        Line::Load(actor, category, day, approved, count) => a_call(),
+        Line::File(submitter) => a_call(),
+        Line::Engagement(actor, category, day, step) => Asking {
+            asks: true,
+            said: engagement(
+                head,
+                keys,
+                marks,
+                rows,
+                loads,
+                line,
+                actor,
+                category,
+                day,
+                step,
+            ),
+        },
+        Line::RecordOf(asker, id) => Asking {
+            asks: true,
+            said: record(head, keys, marks, rows, line, asker, id),
+        },
+        Line::Unknown => Asking {
+            asks: true,
+            said: refused(NO_CALL),
+        },
+    }
 }

@@ -1,4 +1,4 @@
 // A line of the script, answered by a register (document 01, "The script program").
 pub mod answering;
-mod asking;
+pub mod asking;
 mod calling;

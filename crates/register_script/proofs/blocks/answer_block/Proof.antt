@@ -1,19 +1,12 @@
+-- A line ends at or after its start, and no later than the block: so the next one starts in the block or at its end.
 use borrow.Author.Needs.{needs}
-use Prim.Native.Nat.{_≤_, _-_, _+_, _<_}
+use Prim.Native.Nat.{_≤_, _-_}
 use native.Mathlib.Omega.{arith}
 use lib.ListN.{length}
-use mathlib.Core.Path.{_≡_, refl, sym, _∙_}
+use mathlib.Core.Path.{_≡_, sym, _∙_}
 use lib.Seq.{length-take-le}
 use Rattle.register_script.proofs.blocks.answer_block.Statement.{statement}
 use Rattle.register_script.proofs.blocks.answer_block.Tie as tie
-use Rattle.register_script.proofs.blocks.answer_block.Reads as reads
-use Rattle.register_script.proofs.blocks.answer_block.Lts as lts
-use Rattle.register_script.proofs.bodies.body_of.Reads as body-of-reads
-use Rattle.register_script.proofs.lines.flush.Reads as flush-reads
-use Rattle.register_script.proofs.lines.line_end.Reads as line-end-reads
-use Rattle.register_script.proofs.lines.put.Reads as put-reads
-use Rattle.session.proofs.answering.answer.Reads as answer-reads
-use Rattle.std.proofs.num.wrapping_add_u64.Reads as wrapping-add-u64-reads
 
 abbrev Inv-loop : tie.InvT-loop
 Inv-loop keys₀ marks₀ rows₀ loads₀ powers₀ body₀ number input end output₀ block head₀ number₀ at₀ out₀ keys marks rows loads powers body output head number' at out = (at ≤ length block) × (out ≤ 65536) × (length body ≡ length body₀)
@@ -21,75 +14,57 @@ Inv-loop keys₀ marks₀ rows₀ loads₀ powers₀ body₀ number input end ou
 abbrev μ-loop : tie.MeasureT-loop
 μ-loop keys₀ marks₀ rows₀ loads₀ powers₀ body₀ number input end output₀ block head₀ number₀ at₀ out₀ keys marks rows loads powers body output head number' at out = length block - at
 
--- src/blocks.rt:43:9
 slice-aggregate-block : tie.Need-slice-aggregate-block Inv-loop μ-loop
 slice-aggregate-block c = sym (length-take-le _ _ (c .before .before .before .pre))
 
--- src/blocks.rt:48:5
 loop-holds : tie.Need-loop-holds Inv-loop μ-loop
 loop-holds c = search needs
 
--- src/blocks.rt:49:13
 line-end-requires : tie.Need-line-end-requires Inv-loop μ-loop
 line-end-requires c κs = search needs
 
--- src/blocks.rt:53:20
 sub-line : tie.Need-sub-line Inv-loop μ-loop
 sub-line c = search needs
 
--- src/blocks.rt:53:20
 part-line-start : tie.Need-part-line-start Inv-loop μ-loop
 part-line-start c = search needs
 
--- src/blocks.rt:53:20
 part-line-end : tie.Need-part-line-end Inv-loop μ-loop
 part-line-end c = search needs
 
--- src/blocks.rt:54:13
 body-of-requires : tie.Need-body-of-requires Inv-loop μ-loop
 body-of-requires c κs = search needs
 
--- src/blocks.rt:65:13
 slice-reshare-prefix-answer : tie.Need-slice-reshare-prefix-answer Inv-loop μ-loop
 slice-reshare-prefix-answer c = search needs
 
--- src/blocks.rt:65:13
 slice-aggregate-answer : tie.Need-slice-aggregate-answer Inv-loop μ-loop
 slice-aggregate-answer c = sym (length-take-le _ _ (c .before .before .before .before .before .before .before .before .body-of .ensures))
 
--- src/blocks.rt:56:13
 answer-requires : tie.Need-answer-requires Inv-loop μ-loop
 answer-requires c κs = search needs
 
--- src/blocks.rt:68:9
 wrapping-add-u64-requires : tie.Need-wrapping-add-u64-requires Inv-loop μ-loop
 wrapping-add-u64-requires c κs = search needs
 
--- src/blocks.rt:69:9
 put-requires : tie.Need-put-requires Inv-loop μ-loop
 put-requires c κs = c .before .before .before .before .before .before .before .before .before .before .before .before .before .before .before .before .before .before .before .loop .inv .1
 
--- src/blocks.rt:70:14
 add-at : tie.Need-add-at Inv-loop μ-loop
 add-at c = omega (arith, c .before .before .before .before .before .before .before .before .before .before .before .before .before .before .before .before .before .before .line-end .ensures .1, c .before .before .before .before .before .before .before .before .before .before .before .before .before .before .before .before .before .if1 .left, c .before .before .before .before .before .before .before .before .before .before .before .before .before .before .before .before .before .before .before .before .before .before .before .before .fits .end, length-take-le (c .before .before .before .before .before .before .before .before .before .before .before .before .before .before .before .before .before .before .before .before .before .before .before .before .args .end) (c .before .before .before .before .before .before .before .before .before .before .before .before .before .before .before .before .before .before .before .before .before .before .before .before .args .input .now) (c .before .before .before .before .before .before .before .before .before .before .before .before .before .before .before .before .before .before .before .before .before .before .before .before .pre))
 
--- src/blocks.rt:48:5
 loop-less : tie.Need-loop-less Inv-loop μ-loop
 loop-less c = omega (arith, c .before .before .before .before .before .before .before .before .before .before .before .before .before .before .before .before .before .before .before .loop-test .taken, c .before .before .before .before .before .before .before .before .before .before .before .before .before .before .before .before .before .before .line-end .ensures .0, c .before .before .before .before .before .before .before .before .before .before .before .before .before .before .before .before .before .before .line-end .ensures .1, c .before .before .before .before .before .before .before .before .before .before .before .before .before .before .before .before .before .if1 .left)
 
--- src/blocks.rt:48:5
 loop-again : tie.Need-loop-again Inv-loop μ-loop
 loop-again c = (omega (arith, c .before .before .before .before .before .before .before .before .before .before .before .before .before .before .before .before .before .before .line-end .ensures .0, c .before .before .before .before .before .before .before .before .before .before .before .before .before .before .before .before .before .before .line-end .ensures .1, c .before .before .before .before .before .before .before .before .before .before .before .before .before .before .before .before .before .if1 .left), c .put .ensures, c .before .before .before .before .before .before .before .before .before .before .before .before .body .given ∙ c .before .before .before .before .before .before .before .before .before .before .before .before .before .before .before .before .before .before .before .before .loop .inv .2)
 
--- src/blocks.rt:72:5
 flush-requires : tie.Need-flush-requires Inv-loop μ-loop
 flush-requires c κs = search needs
 
--- src/blocks.rt:27:1
 same-length : tie.Need-same-length Inv-loop μ-loop
 same-length c = search needs
 
--- src/blocks.rt:27:1
 returns : tie.Need-returns Inv-loop μ-loop
 returns c = omega (arith, c .before .before .before .before .loop .inv .0, length-take-le (c .before .before .before .before .before .before .before .before .args .end) (c .before .before .before .before .before .before .before .before .args .input .now) (c .before .before .before .before .before .before .before .before .pre))
 

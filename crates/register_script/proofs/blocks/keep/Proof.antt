@@ -1,12 +1,8 @@
+-- No more than 513 bytes are moved, each from a place before the end of what is held.
 use borrow.Author.Needs.{needs}
-use Prim.Native.Nat.{_≤_, _-_, _+_, _<_}
-use native.Mathlib.Omega.{arith}
-use lib.ListN.{length}
-use mathlib.Core.Path.{_≡_, refl, sym, _∙_}
+use Prim.Native.Nat.{_≤_, _-_}
 use Rattle.register_script.proofs.blocks.keep.Statement.{statement}
 use Rattle.register_script.proofs.blocks.keep.Tie as tie
-use Rattle.register_script.proofs.blocks.keep.Reads as reads
-use Rattle.register_script.proofs.blocks.keep.Lts as lts
 
 abbrev Inv-loop : tie.InvT-loop
 Inv-loop input₀ from to n₀ input n = (n ≤ 513)
@@ -14,43 +10,33 @@ Inv-loop input₀ from to n₀ input n = (n ≤ 513)
 abbrev μ-loop : tie.MeasureT-loop
 μ-loop input₀ from to n₀ input n = 513 - n
 
--- src/blocks.rt:82:5
 loop-holds : tie.Need-loop-holds Inv-loop μ-loop
 loop-holds c = search needs
 
--- src/blocks.rt:83:12
 sub-if1 : tie.Need-sub-if1 Inv-loop μ-loop
 sub-if1 c = search needs
 
--- src/blocks.rt:84:13
 returns : tie.Need-returns Inv-loop μ-loop
 returns c = search needs
 
--- src/blocks.rt:86:26
 add-input : tie.Need-add-input Inv-loop μ-loop
 add-input c = search needs
 
--- src/blocks.rt:86:20
 element-copy-out-input : tie.Need-element-copy-out-input Inv-loop μ-loop
 element-copy-out-input c = search needs
 
--- src/blocks.rt:86:9
 element-write-input : tie.Need-element-write-input Inv-loop μ-loop
 element-write-input c = search needs
 
--- src/blocks.rt:87:9
 add-n : tie.Need-add-n Inv-loop μ-loop
 add-n c = search needs
 
--- src/blocks.rt:82:5
 loop-less : tie.Need-loop-less Inv-loop μ-loop
 loop-less c = search needs
 
--- src/blocks.rt:82:5
 loop-again : tie.Need-loop-again Inv-loop μ-loop
 loop-again c = search needs
 
--- src/blocks.rt:77:1
 returns-2 : tie.Need-returns-2 Inv-loop μ-loop
 returns-2 c = search needs
 

@@ -1,7 +1,5 @@
 use mathlib.Core.Path.{_≡_, ap, _∙_}
-use Rattle.turns.specs.Told.{told}
-use Rattle.session.proofs.Spans.{engagement-line}
-use Rattle.session.specs.Lines.{only}
+use Rattle.session.proofs.Spans.{asks-engagement}
 use Rattle.answers.specs.Values.{saidEngaged}
 use borrow.Author.Needs.{needs}
 use Rattle.session.proofs.asking.engagement.Statement.{statement}
@@ -49,7 +47,7 @@ of-engaged-requires c κs = search needs
 
 -- src/asking.rt:17:1
 returns : tie.Need-returns
-returns c = λ readable body powers. ap (only _) (c .of-engaged .ensures ∙ ap saidEngaged (c .before .engagement .ensures)) ∙ engagement-line _ readable body _ powers _ _ _ _
+returns c = λ powers. c .of-engaged .ensures ∙ (ap saidEngaged (c .before .engagement .ensures) ∙ asks-engagement _ _ powers _ _ _ _ .1)
 
 pub engagement-spec : {M : Type 1} → statement M
 engagement-spec =

@@ -1,7 +1,5 @@
 use mathlib.Core.Path.{_≡_, ap, _∙_}
-use Rattle.turns.specs.Told.{told}
-use Rattle.session.proofs.Spans.{record-line}
-use Rattle.session.specs.Lines.{only}
+use Rattle.session.proofs.Spans.{asks-record}
 use Rattle.answers.specs.Values.{saidShown}
 use borrow.Author.Needs.{needs}
 use Rattle.session.proofs.asking.record.Statement.{statement}
@@ -33,7 +31,7 @@ of-shown-requires c κs = search needs
 
 -- src/asking.rt:50:1
 returns : tie.Need-returns
-returns c = λ loads readable body powers. ap (only _) (c .of-shown .ensures ∙ ap saidShown (c .before .record .ensures loads)) ∙ record-line _ readable body _ powers _ _
+returns c = λ loads powers. c .of-shown .ensures ∙ (ap saidShown (c .before .record .ensures loads) ∙ asks-record _ _ powers _ _ .1)
 
 pub record-spec : {M : Type 1} → statement M
 record-spec =
