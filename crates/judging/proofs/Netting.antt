@@ -7,13 +7,15 @@ use Prim.Native.Nat.{ℕ, _+_, _*_, _/_, _%_, _≤_, _<_}
 use native.Mathlib.Numerals.{add-one}
 use native.Mathlib.Omega.{arith}
 use lib.Dec.{eqb, leb, ltb}
-use lib.ListN.{length, getD}
+use lib.ListN.{length, getD, replicate, getD-replicate}
 use Rattle.lists.specs.Sums.{sumTo}
 use borrow.Author.Tests.{eqb-true, eq-eqb, le-leb, lt-ltb, le-ltb}
 use Rattle.lists.proofs.Tests.{by-test, true-false}
-use Rattle.tables.specs.Tables.{Columns, inMarket, isUnder, Listed}
+use Rattle.tables.specs.Tables.{Columns, loadRow, inMarket, isUnder, Listed}
+use Rattle.tables.specs.declared.loads.Found.{Found}
+use Rattle.tables.specs.declared.loads.Found.the-variants.{At, Nothing}
 use Rattle.tables.proofs.Listing.{through, listed-skip}
-use Rattle.judging.specs.Nets.{base, Between, Added, Turned, spanned, concerns, gifts, gains, Netting}
+use Rattle.judging.specs.Nets.{base, Between, Based, Added, Turned, spanned, concerns, gifts, gains, Netting}
 
 and-false : (a b : Bool) → b ≡ false → (a && b) ≡ false
 and-false true b e = e
@@ -168,3 +170,30 @@ pub listed-through : (keys : List ℕ) (own i k count : ℕ) (places : List ℕ)
 listed-through keys own i k count places h f l =
     through (λ j. Listed (isUnder keys own) j count places) i k h
     (λ j a b t. listed-skip (isUnder keys own) j count places t (not-under keys own j (f j a b))) l
+
+-- ---- the nets that are started with: the powers of a load that was found, or none
+
+module _ (rows : List (List ℕ)) (at : Found) (net : List ℕ) where
+  pub based-at : (i : ℕ) → at ≡ At i → i < 64 → Based (getD rows i []) net → Based (loadRow rows at) net
+  unfolding loadRow
+  based-at i e h b = rw (e, lt-ltb i 64 h) b
+
+  none : net ≡ replicate 50 base → Based (replicate 50 0) net
+  none e =
+      rw e
+      (record {
+        between = record {
+          fifty = refl;
+          low = λ s h. omega (arith, getD-replicate 50 s base 0 h);
+          high = λ s h. omega (arith, getD-replicate 50 s base 0 h);
+        };
+        each = λ s h. omega (arith, getD-replicate 50 s base 0 h, getD-replicate {A = ℕ} 50 s 0 0 h);
+      })
+
+  pub based-past : (i : ℕ) → at ≡ At i → 64 ≤ i → net ≡ replicate 50 base → Based (loadRow rows at) net
+  unfolding loadRow
+  based-past i e h b = rw (e, le-ltb i 64 h) (none b)
+
+  pub based-nothing : at ≡ Nothing → net ≡ replicate 50 base → Based (loadRow rows at) net
+  unfolding loadRow
+  based-nothing e b = rw e (none b)

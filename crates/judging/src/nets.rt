@@ -4,10 +4,12 @@ ghost use mathlib.Core.Path.{_≡_};
 ghost use mathlib.Core.Bool.{Bool, true, cond, _&&_};
 ghost use mathlib.Core.List.{List, []};
 ghost use Prim.Native.Nat.{ℕ, _<_, _≤_, _+_, _*_, _/_};
-ghost use lib.ListN.{length, getD};
+ghost use lib.ListN.{length, getD, replicate};
 ghost use lib.Dec.{leb, ltb};
-ghost use Rattle.tables.specs.Tables.{Columns, inMarket, isUnder, Listed};
+ghost use Rattle.tables.specs.Tables.{Columns, loadRow, inMarket, isUnder, Listed};
 ghost use Rattle.judging.specs.Nets.{base, Between, Added, Turned, Based, movesFor, PassedOne, Netted};
+use tables::loads::Found;
+use tables::loads::LOADS;
 use tables::markets::next_of;
 use tables::records::UPDATED;
 use tables::records::VALIDATED;
@@ -40,17 +42,28 @@ fn only(on: bool, p: u32) -> u32
     if on { p } else { 0 }
 }
 
-// A row of powers, counted from the base.
-pub fn based(row: [u16; 50]) -> [u32; 50]
-    ensures { λ r. ⌜ Based row r ⌝ }
+// Puts the powers of load i, counted from the base, into a net.
+fn put_load(net: &mut [u32; 50], rows: &[[u16; 50]; 64], i: u32)
+    requires { ⌜ (i < 64) × (length (now net) ≡ 50) ⌝ }
+    ensures { λ r. ⌜ Based (getD (now (rows .entry)) i []) (now (net .exit)) ⌝ }
 {
-    let mut net = [BASE; 50];
     let mut s: usize = 0;
     while s < 50 {
-        net[s] = BASE + wide(row[s]);
+        net[s] = BASE + wide(rows[i as usize][s]);
         s += 1;
     }
-    net
+}
+
+// Starts a net, which stands at the base, with the powers of a load that was found, or with none.
+pub fn start_net(net: &mut [u32; 50], rows: &[[u16; 50]; 64], at: Found)
+    requires { ⌜ now net ≡ replicate 50 base ⌝ }
+    ensures { λ r. ⌜ Based (loadRow (now (rows .entry)) at) (now (net .exit)) ⌝ }
+{
+    if let Found::At(i) = at {
+        if i < LOADS {
+            put_load(net, rows, i);
+        }
+    }
 }
 
 // Adds a record's whole row to a net.

@@ -2,10 +2,10 @@
 use mathlib.Core.Path.{_≡_, sym, ap, _∙_}
 use mathlib.Core.Bool.{Bool, true, false, cond, not}
 use mathlib.Core.List.{List}
-use Prim.Native.Nat.{ℕ, _+_, _-_, _≤_, _<_}
+use Prim.Native.Nat.{ℕ, _+_, _-_, _≤_, _<_, min}
 use native.Mathlib.Omega.{arith}
-use lib.Dec.{ltb}
-use lib.ListN.{drop}
+use lib.Dec.{eqb, ltb}
+use lib.ListN.{getD, drop}
 use borrow.Author.Tests.{ltb-true, lt-ltb, le-ltb, not-false}
 use Rattle.calendar.specs.Steps.{stepsOf}
 use Rattle.calendar.specs.Clocks.{firstCounted}
@@ -17,7 +17,7 @@ use Rattle.refusals.specs.declared.Verdict.the-variants.{Pass, No}
 use Rattle.refusals.specs.declared.StateRefusal.the-variants.{DayPast, DayFar, NoStep, AcquirerContract, CederContract, NoLoad}
 use Rattle.ledger.specs.Ledger.{Key, hasLoad}
 use Rattle.ledger.specs.Filing.{inContract}
-use Rattle.tables.specs.Tables.{Columns, loadNumber, loadsIn, lastLoad}
+use Rattle.tables.specs.Tables.{Columns, loadNumber, loadsIn, lastBelow, lastLoad}
 use Rattle.tables.specs.declared.loads.Loads.{Loads}
 use Rattle.tables.specs.declared.loads.Found.{Found}
 use Rattle.tables.specs.declared.loads.Found.the-variants.{At, Nothing}
@@ -79,3 +79,9 @@ module _ (x : Loads) (rows : List (List ℕ)) (a z d number : ℕ) (f : Found) (
 
   pub load-some : (i : ℕ) → f ≡ At i → not (hasLoad (loadsIn x rows) a z d) ≡ false
   load-some i e = ap not (load-test true (ap isAt e))
+
+-- the last load of a number among those that are there is the newest of it
+pub last-is : (x : Loads) (n number : ℕ) (f : Found) → n ≡ min (x .count) 64 → f ≡ lastBelow (λ i. eqb (getD (x .keys) i 0) number) n →
+    f ≡ lastLoad x number
+unfolding lastLoad
+last-is x n number f e g = g ∙ ap (lastBelow (λ i. eqb (getD (x .keys) i 0) number)) e

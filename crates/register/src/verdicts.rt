@@ -10,8 +10,9 @@ ghost use Rattle.register.specs.View.{view};
 ghost use Rattle.register.specs.Judging.{keyAt, Placed, partyTests, stepTests, placeTests, Judgeable, UnderListed};
 use crate::Head;
 use calendar::steps_of;
-use judging::nets::based;
+use judging::nets::BASE;
 use judging::nets::pass_records;
+use judging::nets::start_net;
 use judging::steps::no;
 use judging::steps::step_verdict;
 use notification::Notification;
@@ -22,8 +23,9 @@ use tables::actors::ACTORS;
 use tables::actors::least;
 use tables::categories::CATEGORIES;
 use tables::loads::Found;
+use tables::loads::LOADS;
+use tables::loads::last_of;
 use tables::loads::load_number;
-use tables::loads::row_at;
 use tables::records::RECORDS;
 use tables::records::key_number;
 
@@ -137,8 +139,9 @@ impl Head {
         if !self.in_contract(at.ceder, day) {
             return no(StateRefusal::CederContract, 0);
         }
-        let loads = self.loads;
-        let found = loads.find(load_number(at.ceder, at.category, day));
+        let held = least(self.loads.count, LOADS);
+        let load_keys = self.loads.keys;
+        let found = last_of(&load_keys, held, load_number(at.ceder, at.category, day));
         if let Found::Nothing = found {
             return no(StateRefusal::NoLoad, 0);
         }
@@ -164,11 +167,15 @@ impl Head {
         let clock = self.clock;
         let first = clock.first_counted(day);
         let until = steps_of(day);
-        let held = self.loads;
-        let ceders = held.find(load_number(at.ceder, at.category, day));
-        let acquirers = held.find(load_number(at.acquirer, at.category, day));
-        let mut ceder = based(row_at(loads, ceders));
-        let mut acquirer = based(row_at(loads, acquirers));
+        let table = self.loads;
+        let held = least(table.count, LOADS);
+        let load_keys = table.keys;
+        let ceders = last_of(&load_keys, held, load_number(at.ceder, at.category, day));
+        let acquirers = last_of(&load_keys, held, load_number(at.acquirer, at.category, day));
+        let mut ceder = [BASE; 50];
+        start_net(&mut ceder, loads, ceders);
+        let mut acquirer = [BASE; 50];
+        start_net(&mut acquirer, loads, acquirers);
         let statuses = self.records.statuses;
         let n = least(self.records.count, RECORDS);
         let count = pass_records(
@@ -188,8 +195,8 @@ impl Head {
             &ceder,
             &acquirer,
             &ps,
-            held.approved_at(ceders),
-            held.approved_at(acquirers),
+            table.approved_at(ceders),
+            table.approved_at(acquirers),
             first,
             until,
         );

@@ -10,6 +10,7 @@ use crate::lines::put;
 use libc::STDIN_FILENO;
 use register::Head;
 use session::answering::answer;
+use session::asking::ask;
 use std::num::wrapping_add_u64;
 
 // The most bytes of a line, and one more: what is kept of a line whose end hasn't come yet. A line that is too long stays so when
@@ -52,6 +53,13 @@ fn answer_block(
             break;
         }
         let line = &block[at..stop];
+        number = wrapping_add_u64(number, 1);
+        let asking = ask(head, &*keys, &*marks, &*rows, &*loads, &mut *powers, line);
+        if asking.asks {
+            out = put(output, out, number, asking.said);
+            at = stop + 1;
+            continue;
+        }
         let read = body_of(line, &mut *powers, &mut *body);
         let n = read.length;
         let turn = answer(
@@ -66,7 +74,6 @@ fn answer_block(
             &body[..n],
         );
         head = turn.head;
-        number = wrapping_add_u64(number, 1);
         out = put(output, out, number, turn.said);
         at = stop + 1;
     }

@@ -14,12 +14,39 @@ const LINE_ROOM: usize = 64;
 // What ends a line.
 pub const LF: u8 = b'\n';
 
+// Whether a byte is LF. Each byte is looked at, so that many are compared at once.
+fn has_lf(s: &[u8]) -> bool {
+    let mut found = false;
+    let mut i: usize = 0;
+    while i < s.len() {
+        found = (s[i] == LF) | found;
+        i += 1;
+    }
+    found
+}
+
+// From a place on, the start of the sixteen bytes that have the first LF, or of fewer than sixteen bytes.
+fn near_end(s: &[u8], from: usize) -> usize
+    requires { ⌜ from ≤ length (now s) ⌝ }
+    ensures { λ r. ⌜ (from ≤ r) × (r ≤ length (now (s .entry))) ⌝ }
+{
+    let mut i = from;
+    while 16 <= s.len() - i {
+        let next = i + 16;
+        if has_lf(&s[i..next]) {
+            return i;
+        }
+        i = next;
+    }
+    i
+}
+
 // Where the line that starts at a place ends: at its LF, or at the end of the bytes.
 pub fn line_end(s: &[u8], from: usize) -> usize
     requires { ⌜ from ≤ length (now s) ⌝ }
     ensures { λ r. ⌜ (from ≤ r) × (r ≤ length (now (s .entry))) ⌝ }
 {
-    let mut i = from;
+    let mut i = near_end(s, from);
     while i < s.len() {
         if s[i] == LF {
             return i;

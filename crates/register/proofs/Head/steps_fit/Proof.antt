@@ -1,8 +1,9 @@
 -- `Head::steps_fit` meets its contract: the sums are the ledger's, and so are the checks by them.
-use mathlib.Core.Path.{_∙_}
+use mathlib.Core.Path.{refl, _∙_}
 use mathlib.Core.List.{[]}
 use native.Mathlib.Omega.{arith}
 use Rattle.calendar.proofs.StepCounts.{steps-small}
+use Rattle.register.proofs.Days.{last-is}
 use Rattle.register.proofs.Fits.{noColumns, counted-of, head-most, fits-is}
 use Rattle.register.proofs.Records.{under-listed}
 use borrow.Author.Needs.{needs}
@@ -18,40 +19,37 @@ first-counted-requires c κs = search needs
 steps-of-requires : tie.Need-steps-of-requires
 steps-of-requires c κs = search needs
 
-load-number-requires : tie.Need-load-number-requires
-load-number-requires c κs = let j = c .before .before .before .before .before .pre .0 noColumns [] in (j .ceder, j .category, j .day)
-
-find-requires : tie.Need-find-requires
-find-requires c κs = search needs
-
-load-number-requires-2 : tie.Need-load-number-requires-2
-load-number-requires-2 c κs = let j = c .before .before .before .before .before .before .before .pre .0 noColumns [] in (j .acquirer, j .category, j .day)
-
-find-requires-2 : tie.Need-find-requires-2
-find-requires-2 c κs = search needs
-
-row-at-requires : tie.Need-row-at-requires
-row-at-requires c κs = search needs
-
-based-requires : tie.Need-based-requires
-based-requires c κs = search needs
-
-row-at-requires-2 : tie.Need-row-at-requires-2
-row-at-requires-2 c κs = search needs
-
-based-requires-2 : tie.Need-based-requires-2
-based-requires-2 c κs = search needs
-
 least-requires : tie.Need-least-requires
 least-requires c κs = search needs
 
+load-number-requires : tie.Need-load-number-requires
+load-number-requires c κs = let j = c .before .before .before .before .before .before .before .before .pre .0 noColumns [] in (j .ceder, j .category, j .day)
+
+last-of-requires : tie.Need-last-of-requires
+last-of-requires c κs = search needs
+
+load-number-requires-2 : tie.Need-load-number-requires-2
+load-number-requires-2 c κs = let j = c .before .before .before .before .before .before .before .before .before .before .before .pre .0 noColumns [] in (j .acquirer, j .category, j .day)
+
+last-of-requires-2 : tie.Need-last-of-requires-2
+last-of-requires-2 c κs = search needs
+
+start-net-requires : tie.Need-start-net-requires
+start-net-requires c κs = search needs
+
+start-net-requires-2 : tie.Need-start-net-requires-2
+start-net-requires-2 c κs = search needs
+
+least-requires-2 : tie.Need-least-requires-2
+least-requires-2 c κs = search needs
+
 pass-records-requires : tie.Need-pass-records-requires
 pass-records-requires c κs = (
-  omega (arith, c .before .before .before .before .least .ensures),
-  omega (arith, c .before .before .before .before .before .before .before .before .before .before .before .before .before .before .before .steps-of .ensures, steps-small (c .before .before .before .before .before .before .before .before .before .before .before .before .before .before .before .before .before .before .before .args .at .day)),
-  c .before .before .before .before .before .before .before .before .based .ensures .between,
-  c .before .before .before .before .before .before .based2 .ensures .between,
-  c .before .before .before .before .before .before .before .before .before .before .before .before .before .before .before .before .before .before .before .pre .1,
+  omega (arith, c .before .before .before .before .least2 .ensures),
+  omega (arith, c .before .before .before .before .before .before .before .before .before .before .before .before .before .before .before .before .before .before .before .steps-of .ensures, steps-small (c .before .before .before .before .before .before .before .before .before .before .before .before .before .before .before .before .before .before .before .before .before .before .before .args .at .day)),
+  c .before .before .before .before .before .before .before .before .start-net .ensures .between,
+  c .before .before .before .before .before .before .start-net2 .ensures .between,
+  c .before .before .before .before .before .before .before .before .before .before .before .before .before .before .before .before .before .before .before .before .before .before .before .pre .1,
 )
 
 approved-at-requires : tie.Need-approved-at-requires
@@ -62,28 +60,29 @@ approved-at-requires-2 c κs = search needs
 
 step-verdict-requires : tie.Need-step-verdict-requires
 step-verdict-requires c κs =
-    let a = c .before .before .before .before .before .before .before .before .before .before .before .before .before .before .before .before .before .before .before .before .before .before .before .before .before in
+    let a = c .before .before .before .before .before .before .before .before .before .before .before .before .before .before .before .before .before .before .before .before .before .before .before .before .before .before .before .before .before in
     let h = a .args .self in (
-      omega (arith, c .before .before .before .before .before .before .before .before .before .before .before .before .before .before .before .before .before .before .before .before .before .before .first-counted .ensures, c .before .before .before .before .before .before .before .before .before .before .before .before .before .before .before .before .before .before .before .before .before .steps-of .ensures, counted-of h noColumns [] (a .args .at) (a .pre .0 noColumns [])),
-      omega (arith, c .before .before .before .before .before .before .before .before .before .before .before .before .before .before .before .before .before .before .before .before .before .steps-of .ensures, steps-small (a .args .at .day)),
-      omega (arith, c .before .approved-at .ensures, head-most h _ (a .good .0) (c .before .before .before .before .before .before .before .before .before .before .before .before .before .before .before .before .before .before .find .result)),
-      omega (arith, c .approved-at2 .ensures, head-most h _ (a .good .0) (c .before .before .before .before .before .before .before .before .before .before .before .before .before .before .before .before .find2 .result)),
+      omega (arith, c .before .before .before .before .before .before .before .before .before .before .before .before .before .before .before .before .before .before .before .before .before .before .before .before .before .before .first-counted .ensures, c .before .before .before .before .before .before .before .before .before .before .before .before .before .before .before .before .before .before .before .before .before .before .before .before .before .steps-of .ensures, counted-of h noColumns [] (a .args .at) (a .pre .0 noColumns [])),
+      omega (arith, c .before .before .before .before .before .before .before .before .before .before .before .before .before .before .before .before .before .before .before .before .before .before .before .before .before .steps-of .ensures, steps-small (a .args .at .day)),
+      omega (arith, c .before .approved-at .ensures, head-most h _ (a .good .0) (c .before .before .before .before .before .before .before .before .before .before .before .before .before .before .before .before .before .before .before .last-of .result)),
+      omega (arith, c .approved-at2 .ensures, head-most h _ (a .good .0) (c .before .before .before .before .before .before .before .before .before .before .before .before .before .before .before .before .last-of2 .result)),
       c .before .before .before .before .before .pass-records .ensures .0 .acquirer-high,
     )
 
 returns : tie.Need-returns
 returns c =
-    let a = c .before .before .before .before .before .before .before .before .before .before .before .before .before .before .before .before .before .before .before .before .before .before .before .before .before .before in (
+    let a = c .before .before .before .before .before .before .before .before .before .before .before .before .before .before .before .before .before .before .before .before .before .before .before .before .before .before .before .before .before .before in
+    let h = a .args .self in (
       c .step-verdict .ensures
           ∙ fits-is (a .args .self) _ _ (a .args .at) (a .args .t8) (a .pre .0 _ _)
-          _ (c .before .before .before .before .before .before .before .before .before .before .before .before .before .before .before .before .before .before .before .before .before .before .before .before .before .key-number .ensures .0)
-          _ _ (c .before .before .before .before .before .before .before .before .before .before .before .before .before .before .before .before .before .before .before .before .before .before .before .first-counted .ensures) (c .before .before .before .before .before .before .before .before .before .before .before .before .before .before .before .before .before .before .before .before .before .before .steps-of .ensures)
-          _ _ (c .before .before .before .before .before .before .before .before .before .before .before .before .before .before .before .before .before .before .before .before .load-number .ensures) (c .before .before .before .before .before .before .before .before .before .before .before .before .before .before .before .before .before .before .load-number2 .ensures)
-          _ _ (c .before .before .before .before .before .before .before .before .before .before .before .before .before .before .before .before .before .before .before .find .ensures) (c .before .before .before .before .before .before .before .before .before .before .before .before .before .before .before .before .before .find2 .ensures)
-          _ (c .before .before .before .before .before .before .before .before .before .before .before .least .ensures) _ _ (c .before .before .before .before .before .before .pass-records .ensures .0)
-          _ _ (c .before .before .before .before .before .before .before .before .before .before .before .before .before .before .before .before .row-at .ensures) (c .before .before .before .before .before .before .before .before .before .before .before .before .before .before .before .based .ensures) (c .before .before .before .before .before .before .before .before .before .before .before .before .before .before .row-at2 .ensures) (c .before .before .before .before .before .before .before .before .before .before .before .before .before .based2 .ensures)
+          _ (c .before .before .before .before .before .before .before .before .before .before .before .before .before .before .before .before .before .before .before .before .before .before .before .before .before .before .before .before .before .key-number .ensures .0)
+          _ _ (c .before .before .before .before .before .before .before .before .before .before .before .before .before .before .before .before .before .before .before .before .before .before .before .before .before .before .before .first-counted .ensures) (c .before .before .before .before .before .before .before .before .before .before .before .before .before .before .before .before .before .before .before .before .before .before .before .before .before .before .steps-of .ensures)
+          _ _ (c .before .before .before .before .before .before .before .before .before .before .before .before .before .before .before .before .before .before .before .before .before .load-number .ensures) (c .before .before .before .before .before .before .before .before .before .before .before .before .before .before .before .before .before .before .load-number2 .ensures)
+          _ _ (last-is (h .loads) _ _ _ (c .before .before .before .before .before .before .before .before .before .before .before .before .before .before .before .before .before .before .before .before .before .before .before .before .least .ensures) (c .before .before .before .before .before .before .before .before .before .before .before .before .before .before .before .before .before .before .before .before .last-of .ensures)) (last-is (h .loads) _ _ _ (c .before .before .before .before .before .before .before .before .before .before .before .before .before .before .before .before .before .before .before .before .before .before .before .before .least .ensures) (c .before .before .before .before .before .before .before .before .before .before .before .before .before .before .before .before .before .last-of2 .ensures))
+          _ (c .before .before .before .before .before .before .before .before .before .before .before .least2 .ensures) _ _ (c .before .before .before .before .before .before .pass-records .ensures .0)
+          _ _ refl (c .before .before .before .before .before .before .before .before .before .before .before .before .before .before .before .start-net .ensures) refl (c .before .before .before .before .before .before .before .before .before .before .before .before .before .start-net2 .ensures)
           _ _ (c .before .before .approved-at .ensures) (c .before .approved-at2 .ensures),
-      under-listed (a .args .self) (a .args .at) _ (c .before .before .before .before .before .before .before .before .before .before .before .before .before .before .before .before .before .before .before .before .before .before .before .before .before .key-number .ensures .0) (a .args .keys .now) _ _ _ (c .before .before .before .before .before .before .before .before .before .before .before .least .ensures) (c .before .before .before .before .before .before .pass-records .ensures .1),
+      under-listed (a .args .self) (a .args .at) _ (c .before .before .before .before .before .before .before .before .before .before .before .before .before .before .before .before .before .before .before .before .before .before .before .before .before .before .before .before .before .key-number .ensures .0) (a .args .keys .now) _ _ _ (c .before .before .before .before .before .before .before .before .before .before .before .least2 .ensures) (c .before .before .before .before .before .before .pass-records .ensures .1),
     )
 
 pub steps-fit-spec : {M : Type 1} → statement M
@@ -93,15 +92,14 @@ steps-fit-spec =
     key-number-requires
     first-counted-requires
     steps-of-requires
-    load-number-requires
-    find-requires
-    load-number-requires-2
-    find-requires-2
-    row-at-requires
-    based-requires
-    row-at-requires-2
-    based-requires-2
     least-requires
+    load-number-requires
+    last-of-requires
+    load-number-requires-2
+    last-of-requires-2
+    start-net-requires
+    start-net-requires-2
+    least-requires-2
     pass-records-requires
     approved-at-requires
     approved-at-requires-2

@@ -6,7 +6,7 @@ use native.Mathlib.Omega.{arith}
 use borrow.Author.Tests.{lt-ltb, le-ltb}
 use Rattle.register.specs.Judging.{keyAt}
 use Rattle.register.proofs.Parties.{head-actors}
-use Rattle.register.proofs.Days.{timely-is, far-day, near-day, counted-test, counted-day, load-none, load-some}
+use Rattle.register.proofs.Days.{timely-is, far-day, near-day, counted-test, counted-day, load-none, load-some, last-is}
 use borrow.Author.Needs.{needs}
 use Rattle.register.proofs.Head.timely.Statement.{statement}
 use Rattle.register.proofs.Head.timely.Tie as tie
@@ -103,14 +103,17 @@ returns-5 c cols loads =
     (ap not (sym (c .before .before .in-contract2 .ensures cols loads)) ∙ c .before .if5 .taken)
     refl
 
+least-requires : tie.Need-least-requires
+least-requires c κs = search needs
+
 load-number-requires : tie.Need-load-number-requires
 load-number-requires c κs =
-    let a = c .before .before .before .before .before .before .before .before .before .before .before .before .before in
+    let a = c .before .before .before .before .before .before .before .before .before .before .before .before .before .before .before in
     let m : a .args .at .ceder < 8 = omega (arith, head-actors (a .args .self) _ (a .good .0), a .pre .0 .0) in
-    (m, a .pre .1, counted-day (a .args .self .clock) (a .args .at .day) _ _ (c .before .before .before .before .before .before .before .first-counted .ensures) (c .before .before .before .before .before .before .steps-of .ensures) (c .before .before .before .before .before .if3 .left))
+    (m, a .pre .1, counted-day (a .args .self .clock) (a .args .at .day) _ _ (c .before .before .before .before .before .before .before .before .before .first-counted .ensures) (c .before .before .before .before .before .before .before .before .steps-of .ensures) (c .before .before .before .before .before .before .before .if3 .left))
 
-find-requires : tie.Need-find-requires
-find-requires c κs = search needs
+last-of-requires : tie.Need-last-of-requires
+last-of-requires c κs = search needs
 
 enum-told : tie.Need-enum-told
 enum-told c = search needs
@@ -120,34 +123,34 @@ no-requires-6 c κs = search needs
 
 returns-6 : tie.Need-returns-6
 returns-6 c cols loads =
-    let a = c .before .before .before .before .before .before .before .before .before .before .before .before .before .before .before .before .before .before in
+    let a = c .before .before .before .before .before .before .before .before .before .before .before .before .before .before .before .before .before .before .before .before in
     let h = a .args .self in
     let at = a .args .at in
     let m : at .ceder < 8 = omega (arith, head-actors h _ (a .good .0), a .pre .0 .0) in
     c .no6 .ensures ∙ timely-is h cols loads (keyAt at) (at .submitter) false false false false false true
-    (le-ltb _ _ (c .before .before .before .before .before .before .before .before .before .before .before .before .before .before .before .if1 .left))
-    (near-day _ _ (c .before .before .before .before .before .before .before .before .before .before .before .before .before .before .before .if1 .left) (c .before .before .before .before .before .before .before .before .before .before .before .before .before .if2 .left))
-    (counted-test (h .clock) (at .day) _ _ (c .before .before .before .before .before .before .before .before .before .before .before .before .first-counted .ensures) (c .before .before .before .before .before .before .before .before .before .before .before .steps-of .ensures) _ (c .before .before .before .before .before .before .before .before .before .before .if3 .left))
-    (ap not (sym (c .before .before .before .before .before .before .before .before .before .in-contract .ensures cols loads)) ∙ c .before .before .before .before .before .before .before .before .if4 .left)
-    (ap not (sym (c .before .before .before .before .before .before .before .in-contract2 .ensures cols loads)) ∙ c .before .before .before .before .before .before .if5 .left)
-    (load-none (h .loads) loads (at .ceder) (at .category) (at .day) _ _ m (a .pre .1) (c .before .before .before .before .load-number .ensures) (c .before .before .before .find .ensures) (c .before .enum-told .given .1))
+    (le-ltb _ _ (c .before .before .before .before .before .before .before .before .before .before .before .before .before .before .before .before .before .if1 .left))
+    (near-day _ _ (c .before .before .before .before .before .before .before .before .before .before .before .before .before .before .before .before .before .if1 .left) (c .before .before .before .before .before .before .before .before .before .before .before .before .before .before .before .if2 .left))
+    (counted-test (h .clock) (at .day) _ _ (c .before .before .before .before .before .before .before .before .before .before .before .before .before .before .first-counted .ensures) (c .before .before .before .before .before .before .before .before .before .before .before .before .before .steps-of .ensures) _ (c .before .before .before .before .before .before .before .before .before .before .before .before .if3 .left))
+    (ap not (sym (c .before .before .before .before .before .before .before .before .before .before .before .in-contract .ensures cols loads)) ∙ c .before .before .before .before .before .before .before .before .before .before .if4 .left)
+    (ap not (sym (c .before .before .before .before .before .before .before .before .before .in-contract2 .ensures cols loads)) ∙ c .before .before .before .before .before .before .before .before .if5 .left)
+    (load-none (h .loads) loads (at .ceder) (at .category) (at .day) _ _ m (a .pre .1) (c .before .before .before .before .load-number .ensures) (last-is (h .loads) _ _ _ (c .before .before .before .before .before .before .before .least .ensures) (c .before .before .before .last-of .ensures)) (c .before .enum-told .given .1))
 
 enum-told-2 : tie.Need-enum-told-2
 enum-told-2 c = search needs
 
 returns-7 : tie.Need-returns-7
 returns-7 c cols loads =
-    let a = c .before .before .before .before .before .before .before .before .before .before .before .before .before .before .before .before .before in
+    let a = c .before .before .before .before .before .before .before .before .before .before .before .before .before .before .before .before .before .before .before in
     let h = a .args .self in
     let at = a .args .at in
     let m : at .ceder < 8 = omega (arith, head-actors h _ (a .good .0), a .pre .0 .0) in
     timely-is h cols loads (keyAt at) (at .submitter) false false false false false false
-    (le-ltb _ _ (c .before .before .before .before .before .before .before .before .before .before .before .before .before .before .if1 .left))
-    (near-day _ _ (c .before .before .before .before .before .before .before .before .before .before .before .before .before .before .if1 .left) (c .before .before .before .before .before .before .before .before .before .before .before .before .if2 .left))
-    (counted-test (h .clock) (at .day) _ _ (c .before .before .before .before .before .before .before .before .before .before .before .first-counted .ensures) (c .before .before .before .before .before .before .before .before .before .before .steps-of .ensures) _ (c .before .before .before .before .before .before .before .before .before .if3 .left))
-    (ap not (sym (c .before .before .before .before .before .before .before .before .in-contract .ensures cols loads)) ∙ c .before .before .before .before .before .before .before .if4 .left)
-    (ap not (sym (c .before .before .before .before .before .before .in-contract2 .ensures cols loads)) ∙ c .before .before .before .before .before .if5 .left)
-    (load-some (h .loads) loads (at .ceder) (at .category) (at .day) _ _ m (a .pre .1) (c .before .before .before .load-number .ensures) (c .before .before .find .ensures) _ (c .enum-told2 .given .1))
+    (le-ltb _ _ (c .before .before .before .before .before .before .before .before .before .before .before .before .before .before .before .before .if1 .left))
+    (near-day _ _ (c .before .before .before .before .before .before .before .before .before .before .before .before .before .before .before .before .if1 .left) (c .before .before .before .before .before .before .before .before .before .before .before .before .before .before .if2 .left))
+    (counted-test (h .clock) (at .day) _ _ (c .before .before .before .before .before .before .before .before .before .before .before .before .before .first-counted .ensures) (c .before .before .before .before .before .before .before .before .before .before .before .before .steps-of .ensures) _ (c .before .before .before .before .before .before .before .before .before .before .before .if3 .left))
+    (ap not (sym (c .before .before .before .before .before .before .before .before .before .before .in-contract .ensures cols loads)) ∙ c .before .before .before .before .before .before .before .before .before .if4 .left)
+    (ap not (sym (c .before .before .before .before .before .before .before .before .in-contract2 .ensures cols loads)) ∙ c .before .before .before .before .before .before .before .if5 .left)
+    (load-some (h .loads) loads (at .ceder) (at .category) (at .day) _ _ m (a .pre .1) (c .before .before .before .load-number .ensures) (last-is (h .loads) _ _ _ (c .before .before .before .before .before .before .least .ensures) (c .before .before .last-of .ensures)) _ (c .enum-told2 .given .1))
 
 pub timely-spec : {M : Type 1} → statement M
 timely-spec =
@@ -167,8 +170,9 @@ timely-spec =
     in-contract-requires-2
     no-requires-5
     returns-5
+    least-requires
     load-number-requires
-    find-requires
+    last-of-requires
     enum-told
     no-requires-6
     returns-6

@@ -11,6 +11,9 @@ Inv-loop s from i₀ i = (from ≤ i) × (i ≤ length s)
 abbrev μ-loop : tie.MeasureT-loop
 μ-loop s from i₀ i = length s - i
 
+near-end-requires : tie.Need-near-end-requires Inv-loop μ-loop
+near-end-requires c κs = search needs
+
 loop-holds : tie.Need-loop-holds Inv-loop μ-loop
 loop-holds c = search needs
 
@@ -38,6 +41,7 @@ line-end-spec =
     (tie.spec
     Inv-loop
     μ-loop
+    near-end-requires
     loop-holds
     shared-slice-read-if1
     returns

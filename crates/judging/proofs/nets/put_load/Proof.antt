@@ -1,31 +1,37 @@
--- Each step of a row is counted from the base.
-use borrow.Author.Needs.{needs}
-use mathlib.Core.Path.{_≡_, refl, _∙_}
+-- Each step of the load's row is counted from the base.
+use mathlib.Core.Path.{_≡_, _∙_}
+use mathlib.Core.List.{[]}
 use Prim.Native.Nat.{ℕ, _+_, _-_, _≤_, _<_}
 use native.Mathlib.Omega.{arith}
 use lib.ListN.{length, getD, length-set}
 use Rattle.judging.specs.Nets.{base}
 use Rattle.judging.proofs.Stores.{store-each}
-use Rattle.judging.proofs.nets.based.Statement.{statement}
-use Rattle.judging.proofs.nets.based.Tie as tie
+use borrow.Author.Needs.{needs}
+use Rattle.judging.proofs.nets.put_load.Statement.{statement}
+use Rattle.judging.proofs.nets.put_load.Tie as tie
 
 abbrev Inv-loop : tie.InvT-loop
-Inv-loop row net₀ s₀ net s =
+Inv-loop net₀ rows i s₀ net s =
     (s ≤ 50) × (length net ≡ 50)
-    × ((j : ℕ) → j < s → (getD net j 0 ≡ base + getD row j 0) × (getD row j 0 ≤ 65535))
+    × ((j : ℕ) → j < s → (getD net j 0 ≡ base + getD (getD rows i []) j 0) × (getD (getD rows i []) j 0 ≤ 65535))
 
 abbrev μ-loop : tie.MeasureT-loop
-μ-loop row net₀ s₀ net s = 50 - s
+μ-loop net₀ rows i s₀ net s = 50 - s
 
 loop-holds : tie.Need-loop-holds Inv-loop μ-loop
-loop-holds c =
-    (omega arith, refl, (λ j h. absurd (omega arith)))
+loop-holds c = (omega arith, c .pre .1, (λ j h. absurd (omega arith)))
 
 mul-wide : tie.Need-mul-wide Inv-loop μ-loop
 mul-wide c = search needs
 
-array-read-wide : tie.Need-array-read-wide Inv-loop μ-loop
-array-read-wide c = search needs
+mul-wide-2 : tie.Need-mul-wide-2 Inv-loop μ-loop
+mul-wide-2 c = search needs
+
+index-1-wide : tie.Need-index-1-wide Inv-loop μ-loop
+index-1-wide c = search needs
+
+index-2-wide : tie.Need-index-2-wide Inv-loop μ-loop
+index-2-wide c = search needs
 
 wide-requires : tie.Need-wide-requires Inv-loop μ-loop
 wide-requires c κs = search needs
@@ -36,8 +42,8 @@ add-net c = search needs
 mul-net : tie.Need-mul-net Inv-loop μ-loop
 mul-net c = search needs
 
-array-write-net : tie.Need-array-write-net Inv-loop μ-loop
-array-write-net c = search needs
+element-write-net : tie.Need-element-write-net Inv-loop μ-loop
+element-write-net c = search needs
 
 add-s : tie.Need-add-s Inv-loop μ-loop
 add-s c = search needs
@@ -47,13 +53,14 @@ loop-less c = search needs
 
 loop-again : tie.Need-loop-again Inv-loop μ-loop
 loop-again c =
-    let b = c .before .before .loop in
-    let a = c .before .before .before .args in (
+    let b = c .before .before .before .loop in
+    let a = c .before .before .before .before .args in
+    let row = getD (a .rows .now) (a .i) [] in (
       omega arith,
       length-set (b .net) _ _ ∙ b .inv .1,
       store-each
-          (λ (j x : ℕ). j < b .s → (x ≡ base + getD (a .t1) j 0) × (getD (a .t1) j 0 ≤ 65535))
-          (λ (j x : ℕ). j < b .s + 1 → (x ≡ base + getD (a .t1) j 0) × (getD (a .t1) j 0 ≤ 65535))
+          (λ (j x : ℕ). j < b .s → (x ≡ base + getD row j 0) × (getD row j 0 ≤ 65535))
+          (λ (j x : ℕ). j < b .s + 1 → (x ≡ base + getD row j 0) × (getD row j 0 ≤ 65535))
           (b .net) (b .s) _ (omega arith) (b .inv .2)
           (λ j x ne f l. f (omega arith))
           (λ l. (omega arith, omega arith)),
@@ -67,19 +74,21 @@ returns c =
       each = λ s h. b .inv .2 s (omega arith) .0;
     }
 
-pub based-spec : {M : Type 1} → statement M
-based-spec =
+pub put-load-spec : {M : Type 1} → statement M
+put-load-spec =
     tie.close
     (tie.spec
     Inv-loop
     μ-loop
     loop-holds
     mul-wide
-    array-read-wide
+    mul-wide-2
+    index-1-wide
+    index-2-wide
     wide-requires
     add-net
     mul-net
-    array-write-net
+    element-write-net
     add-s
     loop-less
     loop-again

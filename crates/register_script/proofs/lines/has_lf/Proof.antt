@@ -1,0 +1,45 @@
+-- The place stays in the bytes.
+use borrow.Author.Needs.{needs}
+use Prim.Native.Nat.{_≤_, _-_}
+use lib.ListN.{length}
+use Rattle.register_script.proofs.lines.has_lf.Statement.{statement}
+use Rattle.register_script.proofs.lines.has_lf.Tie as tie
+use Rattle.register_script.proofs.lines.has_lf.Reads as reads
+use Rattle.register_script.proofs.lines.has_lf.Lts as lts
+
+abbrev Inv-loop : tie.InvT-loop
+Inv-loop s found₀ i₀ found i = i ≤ length s
+
+abbrev μ-loop : tie.MeasureT-loop
+μ-loop s found₀ i₀ found i = length s - i
+
+loop-holds : tie.Need-loop-holds Inv-loop μ-loop
+loop-holds c = search needs
+
+shared-slice-read-found : tie.Need-shared-slice-read-found Inv-loop μ-loop
+shared-slice-read-found c = search needs
+
+add-i : tie.Need-add-i Inv-loop μ-loop
+add-i c = search needs
+
+loop-less : tie.Need-loop-less Inv-loop μ-loop
+loop-less c = search needs
+
+loop-again : tie.Need-loop-again Inv-loop μ-loop
+loop-again c = search needs
+
+returns : tie.Need-returns Inv-loop μ-loop
+returns c = search needs
+
+pub has-lf-spec : {M : Type 1} → statement M
+has-lf-spec =
+    tie.close
+    (tie.spec
+    Inv-loop
+    μ-loop
+    loop-holds
+    shared-slice-read-found
+    add-i
+    loop-less
+    loop-again
+    returns)
