@@ -1,7 +1,7 @@
 -- What is true of nets and of the checks by them.
 pub mod Stores
 pub mod Netting
-pub mod Passing
+pub mod Passed
 pub mod Verdicts
 pub mod Keys
 pub mod Ledger

@@ -1,3 +1,4 @@
 // Judging a filing at its counted steps.
 pub mod nets;
+pub mod passing;
 pub mod steps;

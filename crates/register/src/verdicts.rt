@@ -11,8 +11,8 @@ ghost use Rattle.register.specs.Judging.{keyAt, Placed, partyTests, step
 use crate::Head;
 use calendar::steps_of;
 use judging::nets::BASE;
-use judging::nets::pass_records;
 use judging::nets::start_net;
+use judging::passing::pass_records;
 use judging::steps::no;
 use judging::steps::step_verdict;
 use notification::Notification;

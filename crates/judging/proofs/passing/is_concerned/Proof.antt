@@ -3,8 +3,8 @@ use mathlib.Core.Bool.{_||_}
 use lib.Dec.{eqb}
 use Rattle.ledger.specs.Statuses.{validated, updated}
 use Rattle.judging.proofs.Keys.{not-true, not-false}
-use Rattle.judging.proofs.nets.is_concerned.Statement.{statement}
-use Rattle.judging.proofs.nets.is_concerned.Tie as tie
+use Rattle.judging.proofs.passing.is_concerned.Statement.{statement}
+use Rattle.judging.proofs.passing.is_concerned.Tie as tie
 
 returns : tie.Need-returns
 returns c =

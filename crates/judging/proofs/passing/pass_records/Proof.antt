@@ -9,8 +9,8 @@ use Rattle.tables.proofs.Listing.{listed-none}
 use Rattle.judging.specs.Nets.{Netting}
 use Rattle.judging.proofs.Netting.{netting-none, netting-between, netting-through, listed-through}
 use borrow.Author.Needs.{needs}
-use Rattle.judging.proofs.nets.pass_records.Statement.{statement}
-use Rattle.judging.proofs.nets.pass_records.Tie as tie
+use Rattle.judging.proofs.passing.pass_records.Statement.{statement}
+use Rattle.judging.proofs.passing.pass_records.Tie as tie
 
 abbrev Inv-loop : tie.InvT-loop
 Inv-loop ceder₀ acquirer₀ places₀ keys marks rows statuses n own first until count₀ i₀ ceder acquirer places count i =

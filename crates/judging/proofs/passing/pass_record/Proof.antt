@@ -3,10 +3,10 @@ use borrow.Author.Tests.{eq-eqb, ne-eqb}
 use mathlib.Core.Path.{sym, _∙_}
 use native.Mathlib.Omega.{arith}
 use Rattle.tables.specs.Tables.{Columns}
-use Rattle.judging.proofs.Passing.{passed-under, passed-still, passed-turned}
+use Rattle.judging.proofs.Passed.{passed-under, passed-still, passed-turned}
 use borrow.Author.Needs.{needs}
-use Rattle.judging.proofs.nets.pass_record.Statement.{statement}
-use Rattle.judging.proofs.nets.pass_record.Tie as tie
+use Rattle.judging.proofs.passing.pass_record.Statement.{statement}
+use Rattle.judging.proofs.passing.pass_record.Tie as tie
 
 mul-key : tie.Need-mul-key
 mul-key c = search needs
