@@ -3,9 +3,7 @@
 
 use peer::calendar::day_of;
 use peer::notification::{write, Code, Notification};
-use peer::Refusal;
-
-use crate::proved;
+use register::Day;
 
 pub const CATEGORIES: [&[u8; 6]; 2] = [b"13120\0", b"30090C"];
 
@@ -58,37 +56,36 @@ pub fn written(n: &Notification) -> (Vec<u8>, Vec<u8>) {
 
 #[derive(Clone)]
 pub struct Both {
-    pub proved: proved::Register,
+    pub proved: register::Register,
     pub peer: peer::register::Register,
 }
 
 /// Both answers say the same: the same values, or the same refusal.
-pub fn same(ours: proved::Said, peers: Result<Vec<u32>, Refusal>) -> bool {
-    let accepted = peers.is_ok();
-    match peers {
-        Ok(values) => assert_eq!((ours.number, ours.place, &ours.values[..values.len()]), (0, 0, &values[..])),
-        Err(r) => assert_eq!((ours.number, ours.place), (r.number as u32, r.place as u32)),
-    }
-    accepted
+pub fn same<const N: usize>(ours: Result<[u32; N], register::Refusal>, peers: Result<[u32; N], peer::Refusal>) -> bool {
+    let ours = ours.map_err(|r| (r.number, r.place));
+    let peers = peers.map_err(|r| (r.number as u32, r.place as u32));
+    assert_eq!(ours, peers);
+    ours.is_ok()
 }
 
 impl Both {
     fn fresh() -> Self {
-        Both { proved: proved::Register::fresh(), peer: Default::default() }
+        Both { proved: register::Register::new(), peer: Default::default() }
     }
 
     pub fn advance(&mut self, day: u32, minute: u32) {
-        same(self.proved.advance(day, minute), self.peer.advance(day, minute).map(|()| vec![]));
+        same(self.proved.advance(Day(day), minute).map(|()| []), self.peer.advance(day, minute).map(|()| []));
     }
 
     pub fn file(&mut self, submitter: &[u8], name: &[u8], body: &[u8]) -> bool {
         let peers = self.peer.file(submitter, name, body);
-        same(self.proved.file(submitter, name, body), peers.map(|f| vec![f.id as u32, f.status as u32, f.from as u32]))
+        let ours = self.proved.file(submitter, name, body).map(|f| [f.id, f.status.letter() as u32, f.from]);
+        same(ours, peers.map(|f| [f.id as u32, f.status as u32, f.from as u32]))
     }
 
     pub fn engagement(&self, actor: &[u8], category: &[u8], day: u32, step: u32) {
         let peers = self.peer.engagement(actor, category, day, step);
-        same(self.proved.engagement(actor, category, day, step), peers.map(|p| vec![p as u32]));
+        same(self.proved.engagement(actor, category, Day(day), step).map(|p| [p]), peers.map(|p| [p as u32]));
     }
 
     /// The engagements of all actors at all steps of the four days.
@@ -105,16 +102,18 @@ impl Both {
         let (first, last) = (day_of(b"20200101").unwrap() as u32, day_of(b"20221231").unwrap() as u32);
         for a in 0..8 {
             let peers = both.peer.enrol_actor(&code(a), first, last);
-            assert!(same(both.proved.enrol_actor(&code(a), first, last), peers.map(|n| vec![n as u32])));
+            let ours = both.proved.enrol_actor(code(a), Day(first), Day(last));
+            assert!(same(ours.map(|n| [n]), peers.map(|n| [n as u32])));
         }
         for c in CATEGORIES {
             let peers = both.peer.enrol_category(trimmed(c));
-            assert!(same(both.proved.enrol_category(trimmed(c)), peers.map(|n| vec![n as u32])));
+            assert!(same(both.proved.enrol_category(trimmed(c)).map(|n| [n]), peers.map(|n| [n as u32])));
         }
         for i in 0..64 {
             let (actor, category, day) = (code(i % 8), trimmed(CATEGORIES[i / 8 % 2]), day(i / 16) as u32);
             let peers = both.peer.load(&actor, category, day, 9000, &[4000; 48]);
-            assert!(same(both.proved.load(&actor, category, day, 9000, &[4000; 48]), peers.map(|n| vec![n as u32])));
+            let ours = both.proved.load(actor, category, Day(day), 9000, &[4000; 48]);
+            assert!(same(ours.map(|n| [n]), peers.map(|n| [n as u32])));
         }
         both
     }

@@ -2,13 +2,13 @@
 //! `filing count CASE SIDE` only calls, for callgrind, and prints how often.
 
 mod both;
-mod proved;
 
 use std::hint::black_box;
 use std::time::Instant;
 
 use both::{day, written, Both};
 use peer::notification::Notification;
+use register::{Day, Filed, Refusal, Register};
 
 /// The cases: what a filing does, and how many records are held.
 const CASES: [(&str, usize, bool); 8] = [
@@ -25,7 +25,7 @@ const CASES: [(&str, usize, bool); 8] = [
 const ENGAGEMENT: &str = "engagement_255";
 
 #[inline(never)]
-fn proved_filing(r: &mut proved::Register, by: &[u8], name: &[u8], body: &[u8]) -> proved::Said {
+fn proved_filing(r: &mut Register, by: &[u8], name: &[u8], body: &[u8]) -> Result<Filed, Refusal> {
     r.file(by, name, body)
 }
 
@@ -37,8 +37,8 @@ fn peer_filing(
 }
 
 #[inline(never)]
-fn proved_engagement(r: &proved::Register, actor: &[u8], category: &[u8], day: u32, step: u32) -> proved::Said {
-    r.engagement(actor, category, day, step)
+fn proved_engagement(r: &Register, actor: &[u8], category: &[u8], day: u32, step: u32) -> Result<u32, Refusal> {
+    r.engagement(actor, category, Day(day), step)
 }
 
 #[inline(never)]
@@ -90,7 +90,7 @@ fn print(name: &str, proved: f64, peer: f64) {
 fn filing(name: &str, start: &Both, n: &Notification) {
     let (file_name, body) = written(n);
     let proved = time_filing(&start.proved, |r| {
-        black_box(proved_filing(r, black_box(&n.acquirer), black_box(&file_name), black_box(&body)));
+        let _ = black_box(proved_filing(r, black_box(&n.acquirer), black_box(&file_name), black_box(&body)));
     });
     let peer = time_filing(&start.peer, |r| {
         let _ = black_box(peer_filing(r, black_box(&n.acquirer), black_box(&file_name), black_box(&body)));
@@ -110,7 +110,7 @@ fn compare(start: &Both, n: &Notification) {
 fn all() {
     println!(
         "proved {} bytes of state, peer {} bytes",
-        size_of::<proved::Register>(),
+        size_of::<Register>(),
         size_of::<peer::register::Register>()
     );
     for (name, held, paired) in CASES {
@@ -120,7 +120,7 @@ fn all() {
     }
     let (both, n) = Both::fixture(255, true);
     let proved = time_engagement(|day, step| {
-        black_box(proved_engagement(black_box(&both.proved), &n.ceder, b"13120", day, step));
+        let _ = black_box(proved_engagement(black_box(&both.proved), &n.ceder, b"13120", day, step));
     });
     let peer = time_engagement(|day, step| {
         let _ = black_box(peer_engagement(black_box(&both.peer), &n.ceder, b"13120", day, step));
@@ -134,7 +134,7 @@ fn count(case: &str, side: &str) {
         let (both, n) = Both::fixture(255, true);
         for (day, step) in moments() {
             if side == "proved" {
-                black_box(proved_engagement(&both.proved, &n.ceder, b"13120", day, step));
+                let _ = black_box(proved_engagement(&both.proved, &n.ceder, b"13120", day, step));
             } else {
                 let _ = black_box(peer_engagement(&both.peer, &n.ceder, b"13120", day, step));
             }
@@ -146,7 +146,7 @@ fn count(case: &str, side: &str) {
     let (mut both, n) = Both::fixture(held, paired);
     let (name, body) = written(&n);
     if side == "proved" {
-        black_box(proved_filing(&mut both.proved, &n.acquirer, &name, &body));
+        let _ = black_box(proved_filing(&mut both.proved, &n.acquirer, &name, &body));
     } else {
         let _ = black_box(peer_filing(&mut both.peer, &n.acquirer, &name, &body));
     }

@@ -60,8 +60,9 @@ pub struct Records {
     pub ids: [u32; 256],
 }
 
-/// The part of a register that goes by value.
-#[repr(C)]
+/// The part of a register that goes by value. C places an argument of this size at a multiple of 8 anyway; said here, it is copied
+/// by eight bytes.
+#[repr(C, align(8))]
 #[derive(Clone, Copy, PartialEq, Eq)]
 pub struct Head {
     pub clock: Clock,
@@ -151,7 +152,8 @@ const _: () = {
     assert!(size_of::<Head>() == 1904 && offset_of!(Head, actors) == 8 && offset_of!(Head, categories) == 204);
     assert!(offset_of!(Head, loads) == 232 && offset_of!(Head, records) == 620);
     assert!(size_of::<Said>() == 28 && offset_of!(Said, values) == 16);
-    assert!(size_of::<Turn>() == 1932 && offset_of!(Turn, said) == 1904);
+    // C's struct ends with `said`, at 1932; here four bytes more follow it, which nobody writes.
+    assert!(size_of::<Turn>() == 1936 && offset_of!(Turn, said) == 1904);
     assert!(size_of::<RecordShown>() == 180 && offset_of!(RecordShown, powers) == 24);
     assert!(offset_of!(RecordShown, submitter) == 124 && offset_of!(RecordShown, ceder) == 140);
     assert!(offset_of!(RecordShown, acquirer) == 156 && offset_of!(RecordShown, category) == 172);
