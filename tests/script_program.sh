@@ -3,6 +3,12 @@
 set -euo pipefail
 cd "$(dirname "${BASH_SOURCE[0]}")/.."
 root=$PWD
+for tool in rt valgrind; do
+    if ! command -v "$tool" > /dev/null; then
+        echo "The test of the script program needs '$tool', which is not on the PATH." >&2
+        exit 1
+    fi
+done
 for example in examples/*/; do
     if ! cmp <(./run "$example") "$example/expected"; then
         echo "$example: other answers than expected" >&2
@@ -131,3 +137,14 @@ answers "a body through a pipe" "${first[@]}"
 wait
 
 echo "$cases cases: as expected"
+
+# The same filings under valgrind, with files, and the largest of the inputs above.
+cp "$body" "$pipe.csv"
+rm "$pipe"
+mv "$pipe.csv" "$pipe"
+valgrind --error-exitcode=1 --leak-check=full -q "$program" < input > output
+cmp output <(printf '%s\n' "${first[@]}")
+head -c 1000000 /dev/zero | tr '\0' x > input
+valgrind --error-exitcode=1 --leak-check=full -q "$program" < input > output
+cmp output <(printf '1,no,11,0\n')
+echo "the program is clean under valgrind"

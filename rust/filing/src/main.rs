@@ -108,11 +108,7 @@ fn compare(start: &Both, n: &Notification) {
 }
 
 fn all() {
-    println!(
-        "proved {} bytes of state, peer {} bytes",
-        size_of::<Register>(),
-        size_of::<peer::register::Register>()
-    );
+    println!("proved {} bytes of state, peer {} bytes", size_of::<Register>(), size_of::<peer::register::Register>());
     for (name, held, paired) in CASES {
         let (start, n) = Both::fixture(held, paired);
         compare(&start, &n);

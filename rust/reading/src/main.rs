@@ -62,7 +62,10 @@ fn compare(name: &[u8], body: &[u8]) {
         match peer_reader(name, body) {
             Ok(n) => {
                 assert_eq!((ours.number, ours.place, ours.steps), (0, 0, n.steps as u32));
-                assert_eq!((ours.day, ours.ceder, ours.acquirer, ours.category), (n.day as u32, n.ceder, n.acquirer, n.category));
+                assert_eq!(
+                    (ours.day, ours.ceder, ours.acquirer, ours.category),
+                    (n.day as u32, n.ceder, n.acquirer, n.category)
+                );
                 assert!(ours.powers.iter().zip(&n.powers).all(|(a, b)| *a as i16 == *b));
             }
             Err(r) => assert_eq!((ours.number, ours.place), (r.number as u32, r.place as u32)),
