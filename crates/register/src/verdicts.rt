@@ -207,7 +207,7 @@ impl Head {
     }
 
     // What a filing comes to, by its places: 20 to 36. Where it passes, the places of the records under its key are listed.
-    pub fn judge(
+    pub(crate) fn judge(
         self,
         under: &mut [u8; 256],
         keys: &[u32; 256],
