@@ -8,7 +8,7 @@ use native.Mathlib.Numerals.{add-one}
 use native.Mathlib.Decide.{ℕ-discrete}
 use lib.Dec.{eqb}
 use lib.ListN.{length, getD, set, length-set}
-use lib.Seq.{getD-set-same, getD-set-other}
+use lib.Seq.{getD-set-same, getD-set-other, set-getD}
 use borrow.Author.Tests.{eq-eqb, ne-eqb}
 use Rattle.calendar.specs.Clocks.{firstCounted}
 use Rattle.calendar.specs.declared.clock.Clock.{Clock}
@@ -18,8 +18,10 @@ use Rattle.ledger.specs.Filing.{withStatus, ruleOne, ruleTwo, ruleThree, delete
 use Rattle.tables.specs.Tables.{Columns, keyIn, isUnder, reached, Listed}
 use Rattle.tables.proofs.Listing.{listed-next, reached-more}
 use Rattle.lists.proofs.Tests.{and-true, and-right}
-use Rattle.recording.specs.Recording.{recOf, recAt, pairsBelow, ChangedAt, Changed}
+use Rattle.recording.specs.Recording.{recOf, recAt, pairsBelow, madeOf, ChangedAt, Changed}
+use Rattle.tables.specs.More.{putTo, withUntil}
 use Rattle.recording.proofs.Keys.{key-same}
+use Rattle.recording.proofs.Puts.{put-length, put-past, put-more, put-same}
 
 -- ---- tests in a row
 
@@ -225,129 +227,137 @@ module _ (paired : Bool) (clock : Clock) (by own : ℕ) (ps : List ℕ) where
       ((id : ℕ) → (status ≡ changed paired clock by (keyIn own) ps
       (recOf id (getD statuses i 0) own (getD marks i []) (getD rows i [])) .status)
       × (until ≡ changed paired clock by (keyIn own) ps (recOf id (getD statuses i 0) own (getD marks i []) (getD rows i [])) .until)) →
-      (getD mark 0 0 ≡ getD (getD marks i []) 0 0) × (getD mark 1 0 ≡ getD (getD marks i []) 1 0) × (getD mark 2 0 ≡ until) →
+      (mark ≡ withUntil (getD marks i []) until) × (getD mark 2 0 ≡ until) →
       ChangedAt paired clock by own ps i (record { keys = keys; marks = marks; rows = rows })
       (record { keys = keys; marks = set marks i mark; rows = rows }) statuses (set statuses i status)
   stored i status until keys statuses mark marks rows e f g =
       record {
-        marks-long = length-set marks i mark;
-        long = length-set statuses i status;
-        other-marks = λ j ne. getD-set-other marks i j mark [] ne;
-        other = λ j ne. getD-set-other statuses i j status 0 ne;
+        new-statuses = λ id. rw e (ap (set statuses i) (f id .0));
+        new-marks = λ id. rw e (ap (set marks i) (g .0 ∙ ap (withUntil (getD marks i [])) (f id .1)));
         here = λ h l id. rw (getD-set-same statuses i status 0 h, getD-set-same marks i mark [] l, e) (built id);
       }
     where
       old : ℕ → Rec
       old id = recOf id (getD statuses i 0) own (getD marks i []) (getD rows i [])
 
+      first : (j : ℕ) → (j ≡ 2 → ⊥) → getD mark j 0 ≡ getD (getD marks i []) j 0
+      first j ne = ap (λ m. getD m j 0) (g .0) ∙ getD-set-other (getD marks i []) 2 j until 0 ne
+
       built : (id : ℕ) → recOf id status own mark (getD rows i []) ≡ changed paired clock by (keyIn own) ps (old id)
       built id =
-          rw (g .0, g .1, g .2)
+          rw (first 0 (λ e. omega arith), first 1 (λ e. omega arith), g .1)
           (ap₂ (λ s u. withStatus s u (old id)) (f id .0) (f id .1) ∙ changed-is paired clock by (keyIn own) ps (old id))
 
-  -- a record of another key left as it is
+  -- a record of another key is left as it is
+  pub not-changed : (i id : ℕ) (cols : Columns) (statuses : List ℕ) → isUnder (cols .keys) own i ≡ false →
+      recAt cols statuses id i ≡ madeOf paired clock by own ps cols statuses id i
+  not-changed i id cols statuses ne =
+      sym (other-key clock by (keyIn own) ps (recAt cols statuses id i) paired (key-same (getD (cols .keys) i 0) own ∙ ne))
+
+  -- and so are its status and its mark
+  same-status : (i id : ℕ) (cols : Columns) (statuses : List ℕ) → isUnder (cols .keys) own i ≡ false →
+      madeOf paired clock by own ps cols statuses id i .status ≡ getD statuses i 0
+  same-status i id cols statuses ne = sym (ap (λ r. r .status) (not-changed i id cols statuses ne))
+
+  same-mark : (i id : ℕ) (cols : Columns) (statuses : List ℕ) → isUnder (cols .keys) own i ≡ false →
+      withUntil (getD (cols .marks) i []) (madeOf paired clock by own ps cols statuses id i .until) ≡ getD (cols .marks) i []
+  same-mark i id cols statuses ne =
+      ap (withUntil (getD (cols .marks) i [])) (sym (ap (λ r. r .until) (not-changed i id cols statuses ne)))
+      ∙ set-getD (getD (cols .marks) i []) 2 0
+
   pub left-alone : (i : ℕ) (cols : Columns) (statuses : List ℕ) → (getD (cols .keys) i 0 ≡ own → ⊥) →
       ChangedAt paired clock by own ps i cols cols statuses statuses
   left-alone i cols statuses ne =
+      let u = ne-eqb (getD (cols .keys) i 0) own ne in
       record {
-        marks-long = refl;
-        long = refl;
-        other-marks = λ j k. refl;
-        other = λ j k. refl;
-        here = λ h l id. sym (other-key clock by (keyIn own) ps (recAt cols statuses id i) paired
-            (key-same (getD (cols .keys) i 0) own ∙ ne-eqb (getD (cols .keys) i 0) own ne));
+        new-statuses = λ id. sym (ap (set statuses i) (same-status i id cols statuses u) ∙ set-getD statuses i 0);
+        new-marks = λ id. sym (ap (set (cols .marks) i) (same-mark i id cols statuses u) ∙ set-getD (cols .marks) i []);
+        here = λ h l id. not-changed i id cols statuses u;
       }
 
-  -- the records below i are changed, and the others are what they were
-  pub record Passed (i : ℕ) (cols after : Columns) (statuses next : List ℕ) : Type 0 where
-    pub below : Changed paired clock by own ps i cols after statuses next
-    pub rest-marks : (j : ℕ) → i ≤ j → getD (after .marks) j [] ≡ getD (cols .marks) j []
-    pub rest : (j : ℕ) → i ≤ j → getD next j 0 ≡ getD statuses j 0
+  pub changed-none : (cols : Columns) (statuses : List ℕ) → Changed paired clock by own ps 0 cols cols statuses statuses
+  unfolding putTo
+  changed-none cols statuses =
+      record { new-statuses = λ ids. refl; new-marks = λ ids. refl; below = λ id i h. absurd (omega arith) }
 
-  pub passed-none : (cols : Columns) (statuses : List ℕ) → Passed 0 cols cols statuses statuses
-  passed-none cols statuses =
-      record {
-        below = record { keys = refl; rows = refl; marks-long = refl; long = refl; below = λ id i h. absurd (omega arith) };
-        rest-marks = λ j h. refl;
-        rest = λ j h. refl;
-      }
+  -- record i and those past it, where those below i are changed
+  module _ (i : ℕ) (keys statuses next : List ℕ) (rows marks after : List (List ℕ))
+      (p : Changed paired clock by own ps i (record { keys = keys; marks = marks; rows = rows }) (record { keys = keys; marks = after; rows = rows }) statuses next) where
+    abbrev was : Columns
+    was = record { keys = keys; marks = marks; rows = rows }
 
-  -- one record more, of another key
-  pub passed-same : (i : ℕ) (keys statuses next : List ℕ) (rows marks after : List (List ℕ)) → isUnder keys own i ≡ false →
-      Passed i (record { keys = keys; marks = marks; rows = rows }) (record { keys = keys; marks = after; rows = rows }) statuses next →
-      Passed (i + 1) (record { keys = keys; marks = marks; rows = rows }) (record { keys = keys; marks = after; rows = rows }) statuses next
-  passed-same i keys statuses next rows marks after ne p =
-      record {
-        below =
-            record {
-              keys = refl;
-              rows = refl;
-              marks-long = p .below .marks-long;
-              long = p .below .long;
-              below = λ id j k. go id j k (ℕ-discrete j i);
-            };
-        rest-marks = λ j k. p .rest-marks j (omega arith);
-        rest = λ j k. p .rest j (omega arith);
-      }
-    where
-      at : List (List ℕ) → List ℕ → ℕ → ℕ → Rec
-      at ms ss id j = recAt (record { keys = keys; marks = ms; rows = rows }) ss id j
+    abbrev is : Columns
+    is = record { keys = keys; marks = after; rows = rows }
 
-      go : (id j : ℕ) → j < i + 1 → Dec (j ≡ i) → at after next id j ≡ changed paired clock by (keyIn own) ps (at marks statuses id j)
-      go id j k (yes e) =
-          rw e
-          (ap₂ (λ m s. recOf id s (getD keys i 0) m (getD rows i [])) (p .rest-marks i (omega arith)) (p .rest i (omega arith))
-          ∙ sym (other-key clock by (keyIn own) ps (at marks statuses id i) paired (key-same (getD keys i 0) own ∙ ne)))
-      go id j k (no e) = p .below .below id j (omega arith)
+    still-status : getD next i 0 ≡ getD statuses i 0
+    still-status = ap (λ l. getD l i 0) (p .new-statuses (λ j. 0)) ∙ put-past _ statuses i i 0 (omega arith)
 
-  pub passed-more : (i : ℕ) (keys statuses next later : List ℕ) (rows marks after then : List (List ℕ)) →
-      i < length statuses → i < length marks →
-      Passed i (record { keys = keys; marks = marks; rows = rows }) (record { keys = keys; marks = after; rows = rows }) statuses next →
-      ChangedAt paired clock by own ps i (record { keys = keys; marks = after; rows = rows }) (record { keys = keys; marks = then; rows = rows }) next later →
-      Passed (i + 1) (record { keys = keys; marks = marks; rows = rows }) (record { keys = keys; marks = then; rows = rows }) statuses later
-  passed-more i keys statuses next later rows marks after then h l p c =
-      record {
-        below =
-            record {
-              keys = refl;
-              rows = refl;
-              marks-long = c .marks-long ∙ p .below .marks-long;
-              long = c .long ∙ p .below .long;
-              below = λ id j k. go id j k (ℕ-discrete j i);
-            };
-        rest-marks = λ j k. c .other-marks j (λ e. omega arith) ∙ p .rest-marks j (omega arith);
-        rest = λ j k. c .other j (λ e. omega arith) ∙ p .rest j (omega arith);
-      }
-    where
-      at : List (List ℕ) → List ℕ → ℕ → ℕ → Rec
-      at ms ss id j = recAt (record { keys = keys; marks = ms; rows = rows }) ss id j
+    still-mark : getD after i [] ≡ getD marks i []
+    still-mark = ap (λ l. getD l i []) (p .new-marks (λ j. 0)) ∙ put-past _ marks i i [] (omega arith)
 
-      equal : (ms ns : List (List ℕ)) (ss ts : List ℕ) (id j : ℕ) → getD ms j [] ≡ getD ns j [] → getD ss j 0 ≡ getD ts j 0 →
-          at ms ss id j ≡ at ns ts id j
-      equal ms ns ss ts id j e f = ap₂ (λ m s. recOf id s (getD keys j 0) m (getD rows j [])) e f
+    still : (id : ℕ) → recAt is next id i ≡ recAt was statuses id i
+    still id = ap₂ (λ m s. recOf id s (getD keys i 0) m (getD rows i [])) still-mark still-status
 
-      go : (id j : ℕ) → j < i + 1 → Dec (j ≡ i) → at then later id j ≡ changed paired clock by (keyIn own) ps (at marks statuses id j)
-      go id j k (yes e) =
-          rw e
-          (c .here (rw (p .below .long) h) (rw (p .below .marks-long) l) id
-          ∙ ap (changed paired clock by (keyIn own) ps)
-          (equal after marks next statuses id i (p .rest-marks i (omega arith)) (p .rest i (omega arith))))
-      go id j k (no e) =
-          equal then after later next id j (c .other-marks j e) (c .other j e)
-          ∙ p .below .below id j (omega arith)
+    -- one record more, of another key
+    pub changed-same : isUnder keys own i ≡ false → Changed paired clock by own ps (i + 1) was is statuses next
+    changed-same ne =
+        record {
+          new-statuses = λ ids. put-same _ statuses i next 0 (p .new-statuses ids) (same-status i (ids i) was statuses ne);
+          new-marks = λ ids. put-same _ marks i after [] (p .new-marks ids) (same-mark i (ids i) was statuses ne);
+          below = λ id j k. go id j k (ℕ-discrete j i);
+        }
+      where
+        go : (id j : ℕ) → j < i + 1 → Dec (j ≡ i) → recAt is next id j ≡ madeOf paired clock by own ps was statuses id j
+        go id j k (yes e) = rw e (still id ∙ not-changed i id was statuses ne)
+        go id j k (no e) = p .below id j (omega arith)
+
+    -- one record more, changed
+    pub changed-more : (later : List ℕ) (then : List (List ℕ)) → i < length statuses → i < length marks →
+        ChangedAt paired clock by own ps i is (record { keys = keys; marks = then; rows = rows }) next later →
+        Changed paired clock by own ps (i + 1) was (record { keys = keys; marks = then; rows = rows }) statuses later
+    changed-more later then h l c =
+        record {
+          new-statuses = λ ids.
+              put-more _ statuses i next later (p .new-statuses ids)
+              (c .new-statuses (ids i) ∙ ap (λ r. set next i (changed paired clock by (keyIn own) ps r .status)) (still (ids i)));
+          new-marks = λ ids.
+              put-more _ marks i after then (p .new-marks ids)
+              (c .new-marks (ids i)
+              ∙ ap₂ (λ m r. set after i (withUntil m (changed paired clock by (keyIn own) ps r .until))) still-mark (still (ids i)));
+          below = λ id j k. go id j k (ℕ-discrete j i);
+        }
+      where
+        longer : i < length next
+        longer = rw (p .new-statuses (λ j. 0), put-length _ statuses i) h
+
+        longer-marks : i < length after
+        longer-marks = rw (p .new-marks (λ j. 0), put-length _ marks i) l
+
+        other : (id j : ℕ) → (j ≡ i → ⊥) →
+            recAt (record { keys = keys; marks = then; rows = rows }) later id j ≡ recAt is next id j
+        other id j ne =
+            ap₂ (λ m s. recOf id s (getD keys j 0) m (getD rows j []))
+            (ap (λ l. getD l j []) (c .new-marks 0) ∙ getD-set-other after i j _ [] ne)
+            (ap (λ l. getD l j 0) (c .new-statuses 0) ∙ getD-set-other next i j _ 0 ne)
+
+        go : (id j : ℕ) → j < i + 1 → Dec (j ≡ i) →
+            recAt (record { keys = keys; marks = then; rows = rows }) later id j ≡ madeOf paired clock by own ps was statuses id j
+        go id j k (yes e) = rw e (c .here longer longer-marks id ∙ ap (changed paired clock by (keyIn own) ps) (still id))
+        go id j k (no e) = other id j e ∙ p .below id j (omega arith)
 
   -- the listed record after those passed
-  pub passed-listed : (n count j i : ℕ) (places keys statuses next later : List ℕ) (rows marks after then : List (List ℕ)) →
+  pub changed-listed : (n count j i : ℕ) (places keys statuses next later : List ℕ) (rows marks after then : List (List ℕ)) →
       Listed (isUnder keys own) n count places → j < count → i ≡ getD places j 0 → i < length statuses → i < length marks →
-      Passed (reached places j) (record { keys = keys; marks = marks; rows = rows }) (record { keys = keys; marks = after; rows = rows }) statuses next →
+      Changed paired clock by own ps (reached places j) (record { keys = keys; marks = marks; rows = rows }) (record { keys = keys; marks = after; rows = rows }) statuses next →
       ChangedAt paired clock by own ps i (record { keys = keys; marks = after; rows = rows }) (record { keys = keys; marks = then; rows = rows }) next later →
-      Passed (reached places (j + 1)) (record { keys = keys; marks = marks; rows = rows }) (record { keys = keys; marks = then; rows = rows }) statuses later
-  passed-listed n count j i places keys statuses next later rows marks after then l h e a b p c =
+      Changed paired clock by own ps (reached places (j + 1)) (record { keys = keys; marks = marks; rows = rows }) (record { keys = keys; marks = then; rows = rows }) statuses later
+  changed-listed n count j i places keys statuses next later rows marks after then l h e a b p c =
       let before = listed-next (isUnder keys own) n count places l
-      (λ k. Passed k (record { keys = keys; marks = marks; rows = rows }) (record { keys = keys; marks = after; rows = rows }) statuses next)
-      (λ k t q. passed-same k keys statuses next rows marks after t q)
+      (λ k. Changed paired clock by own ps k (record { keys = keys; marks = marks; rows = rows }) (record { keys = keys; marks = after; rows = rows }) statuses next)
+      (λ k t q. changed-same k keys statuses next rows marks after q t)
       j h p in
       let to : i + 1 ≡ reached places (j + 1) = ap (λ k. k + 1) e ∙ sym (reached-more places j) in
-      subst (λ m. Passed m (record { keys = keys; marks = marks; rows = rows }) (record { keys = keys; marks = then; rows = rows }) statuses later) to
-      (passed-more i keys statuses next later rows marks after then a b
-      (subst (λ m. Passed m (record { keys = keys; marks = marks; rows = rows }) (record { keys = keys; marks = after; rows = rows }) statuses next) (sym e) before) c)
+      subst (λ m. Changed paired clock by own ps m (record { keys = keys; marks = marks; rows = rows }) (record { keys = keys; marks = then; rows = rows }) statuses later) to
+      (changed-more i keys statuses next rows marks after
+      (subst (λ m. Changed paired clock by own ps m (record { keys = keys; marks = marks; rows = rows }) (record { keys = keys; marks = after; rows = rows }) statuses next) (sym e) before)
+      later then a b c)

@@ -4,11 +4,12 @@ use mathlib.Core.Bool.{Bool, false, cond, not, _&&_, _||_}
 use mathlib.Core.List.{List, [], _∷_, _++_}
 use Prim.Native.Nat.{ℕ, zero, suc, _/_, _%_, _<_}
 use lib.Dec.{eqb}
-use lib.ListN.{length, getD}
+use lib.ListN.{length, getD, set}
 use Rattle.calendar.specs.declared.clock.Clock.{Clock}
 use Rattle.ledger.specs.Ledger.{Rec, movedBy}
 use Rattle.ledger.specs.Filing.{answers, changed}
 use Rattle.tables.specs.Tables.{Columns, keyIn}
+use Rattle.tables.specs.More.{putTo, withUntil}
 
 -- the record of a status, a key, a mark and a row
 abbrev pub recOf : ℕ → ℕ → ℕ → List ℕ → List ℕ → Rec
@@ -34,22 +35,24 @@ pairsBelow cols statuses zero by own ps = false
 pairsBelow cols statuses (suc n) by own ps =
     answers by (keyIn own) ps (recAt cols statuses 0 n) || pairsBelow cols statuses n by own ps
 
--- record i is changed as a filing changes it, where both lists have it, and the others are not
-pub record ChangedAt (paired : Bool) (clock : Clock) (by own : ℕ) (ps : List ℕ) (i : ℕ) (cols after : Columns) (statuses next : List ℕ) : Type 0 where
-  pub marks-long : length (after .marks) ≡ length (cols .marks)
-  pub long : length next ≡ length statuses
-  pub other-marks : (j : ℕ) → (j ≡ i → ⊥) → getD (after .marks) j [] ≡ getD (cols .marks) j []
-  pub other : (j : ℕ) → (j ≡ i → ⊥) → getD next j 0 ≡ getD statuses j 0
-  pub here : i < length statuses → i < length (cols .marks) → (id : ℕ) →
-      recAt after next id i ≡ changed paired clock by (keyIn own) ps (recAt cols statuses id i)
+-- what a filing makes of record i
+abbrev pub madeOf : Bool → Clock → ℕ → ℕ → List ℕ → Columns → List ℕ → ℕ → ℕ → Rec
+madeOf paired clock by own ps cols statuses id i = changed paired clock by (keyIn own) ps (recAt cols statuses id i)
 
--- each record below n is changed as a filing changes it, and the others are not
+-- record i has the status and the until-step that a filing gives it, and nothing else is written; where both lists have it, it is
+-- changed as the filing changes it
+pub record ChangedAt (paired : Bool) (clock : Clock) (by own : ℕ) (ps : List ℕ) (i : ℕ) (cols after : Columns) (statuses next : List ℕ) : Type 0 where
+  pub new-statuses : (id : ℕ) → next ≡ set statuses i (madeOf paired clock by own ps cols statuses id i .status)
+  pub new-marks : (id : ℕ) →
+      after .marks ≡ set (cols .marks) i (withUntil (getD (cols .marks) i []) (madeOf paired clock by own ps cols statuses id i .until))
+  pub here : i < length statuses → i < length (cols .marks) → (id : ℕ) → recAt after next id i ≡ madeOf paired clock by own ps cols statuses id i
+
+-- each record below n has the status and the until-step that a filing gives it, and nothing else is written
 pub record Changed (paired : Bool) (clock : Clock) (by own : ℕ) (ps : List ℕ) (n : ℕ) (cols after : Columns) (statuses next : List ℕ) : Type 0 where
-  pub keys : after .keys ≡ cols .keys
-  pub rows : after .rows ≡ cols .rows
-  pub marks-long : length (after .marks) ≡ length (cols .marks)
-  pub long : length next ≡ length statuses
-  pub below : (id i : ℕ) → i < n → recAt after next id i ≡ changed paired clock by (keyIn own) ps (recAt cols statuses id i)
+  pub new-statuses : (ids : ℕ → ℕ) → next ≡ putTo (λ i. madeOf paired clock by own ps cols statuses (ids i) i .status) n statuses
+  pub new-marks : (ids : ℕ → ℕ) →
+      after .marks ≡ putTo (λ i. withUntil (getD (cols .marks) i []) (madeOf paired clock by own ps cols statuses (ids i) i .until)) n (cols .marks)
+  pub below : (id i : ℕ) → i < n → recAt after next id i ≡ madeOf paired clock by own ps cols statuses id i
 
 -- what a record of a category and day moves where an actor acquires, and where it cedes
 abbrev pub gainedAt : Columns → List ℕ → ℕ → ℕ → ℕ → ℕ → ℕ

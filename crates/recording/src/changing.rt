@@ -7,6 +7,7 @@ ghost use Rattle.calendar.specs.declared.clock.Clock.{Clock};
 ghost use Rattle.ledger.specs.Filing.{changed};
 ghost use Rattle.tables.specs.Tables.{keyIn, isUnder, Listed};
 ghost use Rattle.recording.specs.Recording.{recOf, ChangedAt, Changed};
+ghost use Rattle.tables.specs.More.{withUntil};
 use crate::pairing::same_powers;
 use calendar::Clock;
 use tables::records::ANSWERED;
@@ -78,9 +79,11 @@ fn change_of(
 
 // A mark with another until-step.
 fn with_until(mark: [u8; 4], until: u8) -> [u8; 4]
-    ensures { λ r. ⌜ (getD r 0 0 ≡ getD mark 0 0) × (getD r 1 0 ≡ getD mark 1 0) × (getD r 2 0 ≡ until) ⌝ }
+    ensures { λ r. ⌜ (r ≡ withUntil mark until) × (getD r 2 0 ≡ until) ⌝ }
 {
-    [mark[0], mark[1], until, mark[3]]
+    let mut next = mark;
+    next[2] = until;
+    next
 }
 
 // What a filing makes of record i: its status and until-step.

@@ -31,7 +31,8 @@ use Rattle.ledger.specs.declared.Answer.{Answer}
 use Rattle.ledger.specs.declared.Engaged.{Engaged}
 use Rattle.ledger.specs.declared.Engaged.the-variants.{Power, Refused}
 use Rattle.tables.specs.Tables.{Columns}
-use Rattle.register.specs.View.{view}
+use Rattle.register.specs.View.{Register, held}
+use Rattle.register.specs.Written.{Done, does, seen}
 use Rattle.register.specs.declared.Head.{Head}
 use Rattle.register.specs.declared.Reply.{Reply}
 use Rattle.register.proofs.Head.fresh.Reads as fresh-reads
@@ -53,16 +54,6 @@ use Rattle.register.proofs.Head.load.Kinds as load-kinds
 use Rattle.register.proofs.Head.file.Kinds as file-kinds
 use Rattle.register.proofs.Head.advance.Kinds as advance-kinds
 use Rattle.register.proofs.Head.engagement.Kinds as engagement-kinds
-
--- a register: its head, and the columns and rows that the caller lends with it
-pub record Register : Type 0 where
-  pub head : Head
-  pub columns : Columns
-  pub loads : List (List ℕ)
-
--- the ledger that it holds
-abbrev pub held : Register → Ledger
-held r = view (r .head) (r .columns) (r .loads)
 
 -- A CALL, ITS ANSWER AND THE REGISTER THAT IT LEAVES: what the called function ensures of what it was handed. Arguments are
 -- read at entry, what it may write at exit; nobody else writes to the register meanwhile.
@@ -124,12 +115,16 @@ pub record Demand3 (cs : List Call) (ys : List Answer) (t : Register) (h : List 
 
 -- ---- from what the functions ensure to the ledger's steps
 
+-- the register that a call leaves, byte by byte, the ledger that this holds, and the answer
+pub did-all : {r s : Register} {c : Call} {y : Answer} → Did r c y s → seen s y ≡ does r c
+did-all (did-actor cols ls κs a y s e) = e cols ls
+did-all (did-category cols ls κs a y s e) = e cols ls
+did-all (did-load cols κs a y s e) = e cols
+did-all (did-file κs a y s e) = e
+did-all (did-advance cols ls a y s e) = e cols ls
+
 did-step : {r s : Register} {c : Call} {y : Answer} → Did r c y s → (held s ≡ step (held r) c .ledger) × (y ≡ step (held r) c .answer)
-did-step (did-actor cols ls κs a y s e) = (ap (λ o. o .ledger) (e cols ls), ap (λ o. o .answer) (e cols ls))
-did-step (did-category cols ls κs a y s e) = (ap (λ o. o .ledger) (e cols ls), ap (λ o. o .answer) (e cols ls))
-did-step (did-load cols κs a y s e) = (ap (λ o. o .ledger) (e cols), ap (λ o. o .answer) (e cols))
-did-step (did-file κs a y s e) = (ap (λ o. o .ledger) e, ap (λ o. o .answer) e)
-did-step (did-advance cols ls a y s e) = (ap (λ o. o .ledger) (e cols ls), ap (λ o. o .answer) (e cols ls))
+did-step d = (ap (λ (x : Done). x .outcome .ledger) (did-all d), ap (λ (x : Done). x .outcome .answer) (did-all d))
 
 pub ran-after : {r t : Register} {cs : List Call} {ys : List Answer} → Ran r cs ys t → (l : Ledger) → held r ≡ l → (held t ≡ after l cs) × (ys ≡ answersTo l cs)
 ran-after none l e = (e, refl)
@@ -182,6 +177,6 @@ of-holds cs ys t h e k =
 pub demand3-of-calls : (head : Head) → fresh-reads.Post tt tt head tt → (cols : Columns) (ls : List (List ℕ)) (cs : List Call)
     (ys : List Answer) (t : Register) → Ran (record { head = head; columns = cols; loads = ls }) cs ys t → Demand3 cs ys t (events cs ys [])
 demand3-of-calls head start cols ls cs ys t run =
-    let p = ran-after run fresh (start cols ls) in
+    let p = ran-after run fresh (start .1 cols ls) in
     of-holds cs ys t (events cs ys []) (p .1)
     (subst (λ l. Holds l (events cs ys [])) (sym (p .0)) (subst (λ zs. Holds (after fresh cs) (events cs zs [])) (sym (p .1)) (demand3 cs)))

@@ -10,3 +10,4 @@ pub mod Notes
 pub mod Answers
 pub mod Demand3
 pub mod Once
+pub mod Kept

@@ -1,5 +1,5 @@
--- From a filing's verdict to the ledger's step: a notification that was read, and a file.
-use mathlib.Core.Path.{_≡_, refl, sym, _∙_, ap, ap₂}
+-- From a filing's verdict to what the call does: a file that is not read, and one whose notification is judged by its places.
+use mathlib.Core.Path.{_≡_, sym, _∙_, ap, ap₂}
 use mathlib.Core.List.{List}
 use Prim.Native.Nat.{ℕ}
 use Rattle.refusals.specs.Tests.{firstMet, decide}
@@ -12,42 +12,39 @@ use Rattle.notification.specs.Reading.{readFile}
 use Rattle.ledger.specs.Call.{file}
 use Rattle.ledger.specs.Ledger.{Ledger, actorAt}
 use Rattle.ledger.specs.Filing.{keyOf, filingTests}
-use Rattle.ledger.specs.Calls.{step, stepNote, fileNote, refusedBy}
-use Rattle.ledger.proofs.Steps.{step-file}
+use Rattle.ledger.specs.Calls.{verdictOf, fileNote, effect}
 use Rattle.register.specs.declared.verdicts.Places.{Places}
+use Rattle.register.specs.View.{Register, held}
 use Rattle.register.specs.Judging.{keyAt, Placed, placeTests, fileAt}
+use Rattle.register.specs.Written.{recordPut, writes}
 use Rattle.register.proofs.Filings.{filing-places}
 
-module _ (l : Ledger) (u : List ℕ) (n : Notification) where
-  filed-at : fileAt l (keyOf l n) (actorAt (l .actors) u) (n .powers) ≡ fileNote l u n
-  unfolding fileAt fileNote
-  filed-at = refl
-
-  module _ (at : Places) (p : Placed l u n at) where
-    placed-tests : placeTests l (keyAt at) (at .submitter) (n .powers) ≡ filingTests l u n
-    placed-tests = ap₂ (λ k by. placeTests l k by (n .powers)) (p .key) (p .by) ∙ sym (filing-places l u n)
-
-    placed-filed : fileAt l (keyAt at) (at .submitter) (n .powers) ≡ fileNote l u n
-    placed-filed = ap₂ (λ k by. fileAt l k by (n .powers)) (p .key) (p .by) ∙ filed-at
-
-    pub note-refused : (v : Verdict) (r : Refusal) → v ≡ firstMet (placeTests l (keyAt at) (at .submitter) (n .powers)) → v ≡ No r →
-        refusedBy l r ≡ stepNote l u n
-    unfolding stepNote
-    note-refused v r e f =
-        let g : firstMet (filingTests l u n) ≡ No r = sym (ap firstMet placed-tests) ∙ (sym e ∙ f) in rw g
-
-    pub note-passed : (v : Verdict) → v ≡ firstMet (placeTests l (keyAt at) (at .submitter) (n .powers)) → v ≡ Pass →
-        fileAt l (keyAt at) (at .submitter) (n .powers) ≡ stepNote l u n
-    unfolding stepNote
-    note-passed v e f =
-        let g : firstMet (filingTests l u n) ≡ Pass = sym (ap firstMet placed-tests) ∙ (sym e ∙ f) in rw g placed-filed
-
 module _ (l : Ledger) (u name body : List ℕ) (x : Reading) (e : x ≡ readFile name body) where
-  file-read : decide (x .verdict) (stepNote l u (x .notification)) (refusedBy l) ≡ step l (file u name body)
-  file-read = ap (λ (y : Reading). decide (y .verdict) (stepNote l u (y .notification)) (refusedBy l)) e ∙ sym (step-file l u name body)
+  by-reading : decide (x .verdict) (firstMet (filingTests l u (x .notification))) No ≡ verdictOf l (file u name body)
+  unfolding verdictOf
+  by-reading = ap (λ (y : Reading). decide (y .verdict) (firstMet (filingTests l u (y .notification))) No) e
 
-  pub file-refused : (r : Refusal) → x .verdict ≡ No r → refusedBy l r ≡ step l (file u name body)
-  file-refused r f = ap (λ (v : Verdict). decide v (stepNote l u (x .notification)) (refusedBy l)) (sym f) ∙ file-read
+  pub file-unread : (f : Refusal) → x .verdict ≡ No f → No f ≡ verdictOf l (file u name body)
+  file-unread f g = ap (λ (v : Verdict). decide v (firstMet (filingTests l u (x .notification))) No) (sym g) ∙ by-reading
 
-  pub file-passed : x .verdict ≡ Pass → stepNote l u (x .notification) ≡ step l (file u name body)
-  file-passed f = ap (λ (v : Verdict). decide v (stepNote l u (x .notification)) (refusedBy l)) (sym f) ∙ file-read
+  module _ (at : Places) (p : Placed l u (x .notification) at) where
+    pub file-verdict : x .verdict ≡ Pass →
+        firstMet (placeTests l (keyAt at) (at .submitter) (x .notification .powers)) ≡ verdictOf l (file u name body)
+    file-verdict g =
+        ap firstMet
+        (ap₂ (λ k by. placeTests l k by (x .notification .powers)) (p .key) (p .by) ∙ sym (filing-places l u (x .notification)))
+        ∙ ap (λ (v : Verdict). decide v (firstMet (filingTests l u (x .notification))) No) (sym g)
+        ∙ by-reading
+
+    pub file-effect : fileAt l (keyAt at) (at .submitter) (x .notification .powers) ≡ effect l (file u name body)
+    unfolding effect fileNote fileAt
+    file-effect =
+        ap₂ (λ k by. fileAt l k by (x .notification .powers)) (p .key) (p .by)
+        ∙ ap (λ (y : Reading). fileNote l u (y .notification)) e
+
+pub file-put : (r : Register) (u name body : List ℕ) (x : Reading) → x ≡ readFile name body → (at : Places) → Placed (held r) u (x .notification) at →
+    recordPut r (at .submitter) (keyAt at) (x .notification .powers) ≡ writes r (file u name body)
+unfolding writes
+file-put r u name body x e at p =
+    ap₂ (λ k by. recordPut r by k (x .notification .powers)) (p .key) (p .by)
+    ∙ ap (λ (y : Reading). recordPut r (actorAt (held r .actors) u) (keyOf (held r) (y .notification)) (y .notification .powers)) e

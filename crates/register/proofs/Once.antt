@@ -26,7 +26,8 @@ use Rattle.ledger.specs.declared.Listed.{Listed}
 use Rattle.ledger.specs.declared.Listed.the-variants.{Count, Refused}
 use Rattle.tables.specs.Tables.{Columns}
 use Rattle.register.specs.declared.Head.{Head}
-use Rattle.register.proofs.Demand3.{Register, held, Ran, ran-after}
+use Rattle.register.specs.View.{Register, held}
+use Rattle.register.proofs.Demand3.{Ran, ran-after}
 use Rattle.register.proofs.Head.fresh.Reads as fresh-reads
 use Rattle.register.proofs.Head.history.Reads as history-reads
 use Rattle.register.proofs.Head.history as history-fn
@@ -62,7 +63,7 @@ pub each-once-of-calls : (head : Head) → fresh-reads.Post tt tt head tt → (c
     (actor before later : List ℕ) (n : ℕ) → Lists t actor before (Count n) later →
     rising 0 (take n later) (length (held t .records)) ≡ true
 each-once-of-calls head start cols ls cs ys t run actor before later n q =
-    let p = ran-after run fresh (start cols ls) in
+    let p = ran-after run fresh (start .1 cols ls) in
     let e = lists-is q in
     let ids = listed (held t) actor before later n (e .0) (e .1) in
     ap (λ is. rising 0 is (length (held t .records))) ids

@@ -11,7 +11,7 @@ use denote.Laws.{Is}
 use Rattle.calendar.specs.Steps.{stepsOf}
 use Rattle.calendar.specs.Clocks.{firstCounted}
 use Rattle.calendar.proofs.StepCounts.{steps-small}
-use Rattle.ledger.specs.Ledger.{Rec}
+use Rattle.ledger.specs.Ledger.{Key, Rec}
 use Rattle.ledger.specs.Filing.{pairs, changed, statusBy, nextId, born, filed}
 use Rattle.ledger.specs.Calls.{Outcome}
 use Rattle.ledger.specs.declared.Answer.the-variants.{Filed}
@@ -19,11 +19,14 @@ use Rattle.tables.specs.Tables.{Columns, keyIn, keyNumber, isUnder, Listed, dow
 use Rattle.tables.specs.declared.records.Records.{Records}
 use Rattle.tables.proofs.Down.{down-same}
 use Rattle.recording.specs.Recording.{pairsBelow, Changed}
+use Rattle.tables.specs.More.{putTo, withUntil}
+use Rattle.recording.proofs.Puts.{put-length}
 use Rattle.recording.proofs.Views.{pairs-view, changed-view}
 use Rattle.judging.proofs.Keys.{key-unpacked}
 use Rattle.register.specs.declared.Head.{Head}
 use Rattle.register.specs.declared.verdicts.Places.{Places}
-use Rattle.register.specs.View.{view}
+use Rattle.register.specs.View.{Register, view}
+use Rattle.register.specs.Written.{recordPut, seen, filesAt}
 use Rattle.register.specs.Judging.{keyAt, Fileable, UnderListed, fileAt}
 use Rattle.register.proofs.Filings.{records-many}
 use Rattle.register.proofs.Head as head
@@ -169,8 +172,8 @@ module _ (h : Head) (loads : List (List ℕ)) (keys : List ℕ) (marks rows : Li
     last : recordIn made is n ≡ born (n + 1) status (h .clock) by (keyAt at) ps
     last =
         let r = room .room in
-        let l₁ = ch .long in
-        let l₂ = ch .marks-long in
+        let l₁ : length next ≡ 256 = ap length (ch .new-statuses (λ i. 0)) ∙ put-length _ (h .records .statuses) n ∙ ls in
+        let l₂ : length turned ≡ 256 = ap length (ch .new-marks (λ i. 0)) ∙ put-length _ marks n ∙ lm in
         stored-last next (h .records .ids) keys turned rows n n (n + 1) status (n + 1) own (by ∷ first ∷ until ∷ 0 ∷ []) ps
         (omega arith) (omega arith) (omega arith) (omega arith) (omega arith)
         ∙ rw (own-key, ef, eu)
@@ -181,15 +184,58 @@ module _ (h : Head) (loads : List (List ℕ)) (keys : List ℕ) (marks rows : Li
         let e : min (n + 1) 256 ≡ suc n = omega (arith, room .room) in
         ap (downFrom (recordIn made is)) e ∙ ap₂ _∷_ last rest
 
-    pub record-done : _≡_ {A = Outcome} (record {
+    -- the register with a filing's record, by what is known of the filing
+    abbrev withRecord : Bool → Key → ℕ → ℕ → ℕ → ℕ → Register
+    withRecord paired k own first until status =
+        record {
+          head = record {
+            clock = h .clock;
+            actors = h .actors;
+            categories = h .categories;
+            loads = h .loads;
+            records = record {
+              count = n + 1;
+              statuses = set (putTo (λ i. changed paired (h .clock) by k ps (recordIn (h .records) was i) .status) n (h .records .statuses)) n status;
+              ids = set (h .records .ids) n (n + 1);
+            };
+          };
+          columns = record {
+            keys = set keys n own;
+            marks = set (putTo (λ i. withUntil (getD marks i []) (changed paired (h .clock) by k ps (recordIn (h .records) was i) .until)) n marks) n (by ∷ first ∷ until ∷ 0 ∷ []);
+            rows = set rows n ps;
+          };
+          loads = loads;
+        }
+
+    left : record {
+      head = record { clock = h .clock; actors = h .actors; categories = h .categories; loads = h .loads; records = made };
+      columns = is;
+      loads = loads;
+    } ≡ recordPut (record { head = h; columns = was; loads = loads }) by (keyAt at) ps
+    unfolding recordPut view
+    left =
+        rw (ch .new-statuses (λ i. getD (h .records .ids) i 0), ch .new-marks (λ i. getD (h .records .ids) i 0))
+        (ap₂ (λ k o. withRecord paired k o first until status) own-key eo
+        ∙ ap₂ (λ f u. withRecord paired (keyAt at) (keyNumber (at .ceder) (at .acquirer) (at .category) (at .day)) f u status) ef eu
+        ∙ ap (withRecord paired (keyAt at) (keyNumber (at .ceder) (at .acquirer) (at .category) (at .day)) (firstCounted (h .clock) (at .day)) (stepsOf (at .day))) es
+        ∙ ap (λ p. withRecord p (keyAt at) (keyNumber (at .ceder) (at .acquirer) (at .category) (at .day)) (firstCounted (h .clock) (at .day)) (stepsOf (at .day)) (statusBy p)) (sym is-paired))
+
+    outcome : _≡_ {A = Outcome} (record {
       ledger = view (record { clock = h .clock; actors = h .actors; categories = h .categories; loads = h .loads; records = made }) is loads;
       answer = Filed (n + 1) status first;
     }) (fileAt (view h was loads) (keyAt at) by ps)
     unfolding view fileAt filed nextId
-    record-done =
+    outcome =
         let m : n + 1 ≡ suc (length (recordsIn (h .records) was)) = omega (arith, many) in
         ap (λ rs. outcomeOf h loads rs (n + 1) status first) all
         ∙ rw (is-paired, ← m, es, ef)
+
+    pub record-done : seen (record {
+      head = record { clock = h .clock; actors = h .actors; categories = h .categories; loads = h .loads; records = made };
+      columns = is;
+      loads = loads;
+    }) (Filed (n + 1) status first) ≡ filesAt (record { head = h; columns = was; loads = loads }) (keyAt at) by ps
+    record-done = ap₂ (λ x o. record { register = x; outcome = o }) left outcome
 
 -- ---- the records under the filing's key
 

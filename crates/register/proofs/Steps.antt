@@ -20,8 +20,9 @@ use Rattle.refusals.specs.declared.Verdict.the-variants.{Pass, No}
 use Rattle.notification.specs.Forms.{isDigit, isCodeByte, isCode, isCategory, sixBytes, categoryText, inPlaces}
 use Rattle.ledger.specs.Call.{Call, enrolActor, enrolCategory, load}
 use Rattle.ledger.specs.Ledger.{Ledger, Load, actorAt, categoryAt}
-use Rattle.ledger.specs.Calls.{Outcome, step, verdictOf, effect, refusedBy, actorTests, categoryTests, loadTests}
-use Rattle.ledger.specs.declared.Answer.the-variants.{Held}
+use Rattle.ledger.specs.Calls.{Outcome, step, verdictOf, effect, actorTests, categoryTests, loadTests}
+use Rattle.ledger.specs.declared.Answer.{Answer}
+use Rattle.ledger.specs.declared.Answer.the-variants.{Held, Refused}
 use Rattle.ledger.proofs.Passed.{actor-ok, category-ok, load-ok}
 use Rattle.tables.specs.Tables.{Columns, actorsIn, categoriesIn, loadsIn, recordsIn, loadNumber}
 use Rattle.tables.specs.declared.actors.Actors.{Actors}
@@ -29,19 +30,24 @@ use Rattle.tables.specs.declared.categories.Categories.{Categories}
 use Rattle.tables.specs.declared.loads.Loads.{Loads}
 use Rattle.tables.proofs.LoadTable.{loads-length, newLoad}
 use Rattle.tables.proofs.Texts.{category-length, text-short, text-long}
-use Rattle.register.specs.View.{view, outcome}
+use Rattle.tables.specs.More.{moreActors, moreCategories, moreLoads}
+use Rattle.register.specs.View.{Register, view, held}
+use Rattle.register.specs.Written.{actorsPut, categoriesPut, loadsPut, writes, leaves, does, seen}
 use Rattle.register.specs.declared.Head.{Head}
 use Rattle.register.proofs.CallTests.{actors-many, categories-many}
 
--- ---- a verdict decides the step
+-- ---- a verdict decides what a call does
 
-pub step-refused : (l : Ledger) (c : Call) (v : Verdict) (r : Refusal) → v ≡ verdictOf l c → v ≡ No r → refusedBy l r ≡ step l c
-unfolding step
-step-refused l c v r e f = let g : verdictOf l c ≡ No r = sym e ∙ f in rw g
+pub does-refused : (r : Register) (c : Call) (v : Verdict) (f : Refusal) → v ≡ verdictOf (held r) c → v ≡ No f → seen r (Refused f) ≡ does r c
+unfolding leaves step
+does-refused r c v f e g = let k : verdictOf (held r) c ≡ No f = sym e ∙ g in rw k
 
-pub step-passed : (l : Ledger) (c : Call) (v : Verdict) → v ≡ verdictOf l c → v ≡ Pass → effect l c ≡ step l c
-unfolding step
-step-passed l c v e f = let g : verdictOf l c ≡ Pass = sym e ∙ f in rw g
+pub does-passed : (r s : Register) (c : Call) (y : Answer) (v : Verdict) → v ≡ verdictOf (held r) c → v ≡ Pass → s ≡ writes r c →
+    record { ledger = held s; answer = y } ≡ effect (held r) c → seen s y ≡ does r c
+unfolding leaves step
+does-passed r s c y v e g w o =
+    let k : verdictOf (held r) c ≡ Pass = sym e ∙ g in
+    rw k (ap₂ (λ x z. record { register = x; outcome = z }) w o)
 
 -- no columns, to ask what doesn't depend on them
 abbrev noColumns : Columns
@@ -61,10 +67,10 @@ actor-room h code first last v l e p =
 pub actor-done : (h : Head) (cols : Columns) (loads : List (List ℕ)) (code stored : List ℕ) (first last : ℕ) (x : Actors) →
     length (h .actors .entries) ≡ 8 → h .actors .count < 8 → stored ≡ code →
     actorsIn x ≡ actorsIn (h .actors) ++ (record { code = stored; first = first; last = last } ∷ []) → x .count ≡ h .actors .count + 1 →
-    outcome (record {
-      head = record { clock = h .clock; actors = x; categories = h .categories; loads = h .loads; records = h .records };
+    _≡_ {A = Outcome} (record {
+      ledger = view (record { clock = h .clock; actors = x; categories = h .categories; loads = h .loads; records = h .records }) cols loads;
       answer = Held (x .count);
-    }) cols loads ≡ effect (view h cols loads) (enrolActor code first last)
+    }) (effect (view h cols loads) (enrolActor code first last))
 unfolding view effect
 actor-done h cols loads code stored first last x l room es ea ec =
     let a : actorsIn x ≡ actorsIn (h .actors) ++ (record { code = code; first = first; last = last } ∷ []) =
@@ -80,6 +86,13 @@ actor-done h cols loads code stored first last x l room es ea ec =
       };
       answer = Held m;
     }) a n
+
+pub actor-put : (r : Register) (code stored : List ℕ) (first last : ℕ) (x : Actors) → stored ≡ code →
+    x ≡ moreActors (r .head .actors) (record { code = stored; first = first; last = last }) →
+    actorsPut r x ≡ writes r (enrolActor code first last)
+unfolding writes
+actor-put r code stored first last x es e =
+    ap (actorsPut r) (e ∙ ap (λ s. moreActors (r .head .actors) (record { code = s; first = first; last = last })) es)
 
 -- ---- one category more
 
@@ -115,10 +128,10 @@ category-room h text v l e p =
 pub category-done : (h : Head) (cols : Columns) (loads : List (List ℕ)) (text stored : List ℕ) (x : Categories) →
     length (h .categories .entries) ≡ 4 → h .categories .count < 4 → isCategory text ≡ true → stored ≡ sixBytes text →
     categoriesIn x ≡ categoriesIn (h .categories) ++ (categoryText stored ∷ []) → x .count ≡ h .categories .count + 1 →
-    outcome (record {
-      head = record { clock = h .clock; actors = h .actors; categories = x; loads = h .loads; records = h .records };
+    _≡_ {A = Outcome} (record {
+      ledger = view (record { clock = h .clock; actors = h .actors; categories = x; loads = h .loads; records = h .records }) cols loads;
       answer = Held (x .count);
-    }) cols loads ≡ effect (view h cols loads) (enrolCategory text)
+    }) (effect (view h cols loads) (enrolCategory text))
 unfolding view effect
 category-done h cols loads text stored x l room form es ez ec =
     let z : categoriesIn x ≡ categoriesIn (h .categories) ++ (text ∷ []) =
@@ -134,6 +147,11 @@ category-done h cols loads text stored x l room form es ez ec =
       };
       answer = Held m;
     }) z n
+
+pub category-put : (r : Register) (text stored : List ℕ) (x : Categories) → stored ≡ sixBytes text →
+    x ≡ moreCategories (r .head .categories) (record { text = stored }) → categoriesPut r x ≡ writes r (enrolCategory text)
+unfolding writes
+category-put r text stored x es e = ap (categoriesPut r) (e ∙ ap (λ s. moreCategories (r .head .categories) (record { text = s })) es)
 
 -- ---- one load more
 
@@ -209,3 +227,12 @@ load-done h cols rows actor category day most ps row a z number x ea ez en ok l 
       };
       answer = Held m;
     }) (ex rows row l ∙ ap (λ y. y ∷ loadsIn (h .loads) rows) w) n
+
+pub load-put : (r : Register) (actor category : List ℕ) (day most : ℕ) (ps row : List ℕ) (a z number : ℕ) (x : Loads) →
+    a ≡ actorAt (actorsIn (r .head .actors)) actor → z ≡ categoryAt (categoriesIn (r .head .categories)) category →
+    number ≡ loadNumber a z day → row ≡ inPlaces ps → x ≡ moreLoads (r .head .loads) number most →
+    loadsPut r x (set (r .loads) (r .head .loads .count) row) ≡ writes r (load actor category day most ps)
+unfolding writes view
+load-put r actor category day most ps row a z number x ea ez en er e =
+    ap₂ (λ x row. loadsPut r x (set (r .loads) (r .head .loads .count) row))
+    (e ∙ ap (λ m. moreLoads (r .head .loads) m most) (en ∙ ap₂ (λ a z. loadNumber a z day) ea ez)) er

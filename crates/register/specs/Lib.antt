@@ -1,3 +1,4 @@
--- The ledger that a register holds, and the tests of a filing by places.
+-- The ledger that a register holds, the tests of a filing by places, and what a call leaves.
 pub mod View
 pub mod Judging
+pub mod Written

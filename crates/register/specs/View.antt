@@ -1,11 +1,15 @@
--- THE LEDGER THAT A REGISTER HOLDS, with its head, its lent columns and the loads' lent rows.
+-- A REGISTER, AND THE LEDGER THAT IT HOLDS with its head, its lent columns and the loads' lent rows.
 use mathlib.Core.List.{List}
 use Prim.Native.Nat.{ℕ}
 use Rattle.ledger.specs.Ledger.{Ledger}
-use Rattle.ledger.specs.Calls.{Outcome}
 use Rattle.tables.specs.Tables.{Columns, actorsIn, categoriesIn, loadsIn, recordsIn}
 use Rattle.register.specs.declared.Head.{Head}
-use Rattle.register.specs.declared.Reply.{Reply}
+
+-- a register: its head, and the columns and rows that the caller lends with it
+pub record Register : Type 0 where
+  pub head : Head
+  pub columns : Columns
+  pub loads : List (List ℕ)
 
 unfoldable pub view : Head → Columns → List (List ℕ) → Ledger
 view h cols rows =
@@ -17,6 +21,6 @@ view h cols rows =
       records = recordsIn (h .records) cols;
     }
 
--- the ledger that a reply leaves, and its answer
-abbrev pub outcome : Reply → Columns → List (List ℕ) → Outcome
-outcome r cols rows = record { ledger = view (r .head) cols rows; answer = r .answer }
+-- the ledger that it holds
+abbrev pub held : Register → Ledger
+held r = view (r .head) (r .columns) (r .loads)

@@ -5,9 +5,10 @@ ghost use Prim.Native.Nat.{ℕ};
 ghost use Rattle.refusals.specs.Tests.{firstMet};
 ghost use Rattle.ledger.specs.Call.{enrolActor, enrolCategory, advance};
 ghost use Rattle.ledger.specs.Ledger.{fresh};
-ghost use Rattle.ledger.specs.Calls.{step, actorTests, categoryTests, advanceTests};
+ghost use Rattle.ledger.specs.Calls.{actorTests, categoryTests, advanceTests};
 ghost use Rattle.tables.specs.Tables.{Columns};
-ghost use Rattle.register.specs.View.{view, outcome};
+ghost use Rattle.register.specs.View.{view};
+ghost use Rattle.register.specs.Written.{freshHead, seen, does};
 use crate::Head;
 use crate::Reply;
 use calendar::Clock;
@@ -42,7 +43,7 @@ pub fn no_input(r: InputRefusal) -> Verdict
 impl Head {
     // A register that holds nothing, with its clock at day 0, minute 0.
     pub fn fresh() -> Head
-        ensures { λ r. ⌜ ((cols : Columns) (loads : List (List ℕ)) → view r cols loads ≡ fresh) ⌝ }
+        ensures { λ r. ⌜ (r ≡ freshHead) × ((cols : Columns) (loads : List (List ℕ)) → view r cols loads ≡ fresh) ⌝ }
     {
         let nobody = Actor {
             code: [0; 16],
@@ -107,7 +108,7 @@ impl Head {
 
     // Enrols an actor with a contract from a first to a last day, and answers how many actors there now are.
     pub fn enrol_actor(self, code: &[u8], first: u32, last: u32) -> Reply
-        ensures { λ r. ⌜ ((cols : Columns) (loads : List (List ℕ)) → outcome r cols loads ≡ step (view self cols loads) (enrolActor (now (code .entry)) first last)) ⌝ }
+        ensures { λ r. ⌜ ((cols : Columns) (loads : List (List ℕ)) → seen (record { head = r .head; columns = cols; loads = loads }) (r .answer) ≡ does (record { head = self; columns = cols; loads = loads }) (enrolActor (now (code .entry)) first last)) ⌝ }
     {
         let verdict = self.actor_verdict(code, first, last);
         if let Verdict::No(r) = verdict {
@@ -150,7 +151,7 @@ impl Head {
 
     // Enrols a category, and answers how many there now are.
     pub fn enrol_category(self, text: &[u8]) -> Reply
-        ensures { λ r. ⌜ ((cols : Columns) (loads : List (List ℕ)) → outcome r cols loads ≡ step (view self cols loads) (enrolCategory (now (text .entry)))) ⌝ }
+        ensures { λ r. ⌜ ((cols : Columns) (loads : List (List ℕ)) → seen (record { head = r .head; columns = cols; loads = loads }) (r .answer) ≡ does (record { head = self; columns = cols; loads = loads }) (enrolCategory (now (text .entry)))) ⌝ }
     {
         let verdict = self.category_verdict(text);
         if let Verdict::No(r) = verdict {
@@ -184,7 +185,7 @@ impl Head {
 
     // Advances the clock to a later moment, or to the same one.
     pub fn advance(self, day: u32, minute: u32) -> Reply
-        ensures { λ r. ⌜ ((cols : Columns) (loads : List (List ℕ)) → outcome r cols loads ≡ step (view self cols loads) (advance day minute)) ⌝ }
+        ensures { λ r. ⌜ ((cols : Columns) (loads : List (List ℕ)) → seen (record { head = r .head; columns = cols; loads = loads }) (r .answer) ≡ does (record { head = self; columns = cols; loads = loads }) (advance day minute)) ⌝ }
     {
         let to = Clock {
             day: day,

@@ -4,17 +4,16 @@ ghost use mathlib.Core.List.{List};
 ghost use Prim.Native.Nat.{ℕ};
 ghost use lib.ListN.{length};
 ghost use Rattle.ledger.specs.Call.{file};
-ghost use Rattle.ledger.specs.Calls.{Outcome, step, stepNote};
 ghost use Rattle.ledger.specs.Filing.{statusBy};
 ghost use Rattle.tables.specs.Tables.{Columns};
 ghost use Rattle.register.specs.View.{view};
-ghost use Rattle.register.specs.Judging.{keyAt, Fileable, UnderListed, fileAt};
+ghost use Rattle.register.specs.Judging.{keyAt, Fileable, UnderListed};
+ghost use Rattle.register.specs.Written.{seen, does, filesAt};
 use crate::Head;
 use crate::Reply;
 use crate::verdicts::Places;
 use calendar::steps_of;
 use ledger::Answer;
-use notification::Notification;
 use reader::reading::read_file;
 use recording::changing::change_all;
 use recording::pairing::is_paired;
@@ -58,7 +57,7 @@ impl Head {
         ps: [u16; 50],
     ) -> Reply
         requires { ⌜ ((cols : Columns) (loads : List (List ℕ)) → Fileable (view self cols loads) at) × UnderListed (self .records) at (now keys) count (now under) ⌝ }
-        ensures { λ r. ⌜ ((loads : List (List ℕ)) → _≡_ {A = Outcome} (record { ledger = view (r .head) (record { keys = now (keys .exit); marks = now (marks .exit); rows = now (rows .exit) }) loads; answer = r .answer }) (fileAt (view self (record { keys = now (keys .entry); marks = now (marks .entry); rows = now (rows .entry) }) loads) (keyAt at) (at .submitter) ps)) ⌝ }
+        ensures { λ r. ⌜ ((loads : List (List ℕ)) → seen (record { head = r .head; columns = record { keys = now (keys .exit); marks = now (marks .exit); rows = now (rows .exit) }; loads = loads }) (r .answer) ≡ filesAt (record { head = self; columns = record { keys = now (keys .entry); marks = now (marks .entry); rows = now (rows .entry) }; loads = loads }) (keyAt at) (at .submitter) ps) ⌝ }
     {
         let day = at.day;
         let by = at.submitter;
@@ -118,29 +117,6 @@ impl Head {
         }
     }
 
-    // Files a notification that was read: judged, then recorded.
-    pub fn file_note(
-        self,
-        keys: &mut [u32; 256],
-        marks: &mut [[u8; 4]; 256],
-        rows: &mut [[u16; 50]; 256],
-        loads: &[[u16; 50]; 64],
-        submitter: &[u8],
-        n: Notification,
-    ) -> Reply
-        ensures { λ r. ⌜ _≡_ {A = Outcome} (record { ledger = view (r .head) (record { keys = now (keys .exit); marks = now (marks .exit); rows = now (rows .exit) }) (now (loads .entry)); answer = r .answer }) (stepNote (view self (record { keys = now (keys .entry); marks = now (marks .entry); rows = now (rows .entry) }) (now (loads .entry))) (now (submitter .entry)) n) ⌝ }
-    {
-        let at = self.places(submitter, n);
-        let ps = n.powers;
-        let mut under = [0u8; 256];
-        let judged = self.judge(&mut under, &*keys, &*marks, &*rows, loads, at, ps);
-        let verdict = judged.verdict;
-        if let Verdict::No(r) = verdict {
-            return self.refused(r);
-        }
-        self.record_note(keys, marks, rows, &under, judged.count, at, ps)
-    }
-
     // Files a notification by its submitter's code, its file's name and its body.
     pub fn file(
         self,
@@ -152,14 +128,13 @@ impl Head {
         name: &[u8],
         body: &[u8],
     ) -> Reply
-        ensures { λ r. ⌜ _≡_ {A = Outcome} (record { ledger = view (r .head) (record { keys = now (keys .exit); marks = now (marks .exit); rows = now (rows .exit) }) (now (loads .entry)); answer = r .answer }) (step (view self (record { keys = now (keys .entry); marks = now (marks .entry); rows = now (rows .entry) }) (now (loads .entry))) (file (now (submitter .entry)) (now (name .entry)) (now (body .entry)))) ⌝ }
+        ensures { λ r. ⌜ seen (record { head = r .head; columns = record { keys = now (keys .exit); marks = now (marks .exit); rows = now (rows .exit) }; loads = now (loads .entry) }) (r .answer) ≡ does (record { head = self; columns = record { keys = now (keys .entry); marks = now (marks .entry); rows = now (rows .entry) }; loads = now (loads .entry) }) (file (now (submitter .entry)) (now (name .entry)) (now (body .entry))) ⌝ }
     {
         let reading = read_file(name, body);
         let verdict = reading.verdict;
         if let Verdict::No(r) = verdict {
             return self.refused(r);
         }
-        // As `file_note` does, which would take a copy of the head.
         let n = reading.notification;
         let at = self.places(submitter, n);
         let ps = n.powers;

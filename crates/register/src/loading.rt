@@ -6,9 +6,10 @@ ghost use Rattle.lists.specs.Searches.{every};
 ghost use lib.Dec.{leb};
 ghost use Rattle.refusals.specs.Tests.{firstMet};
 ghost use Rattle.ledger.specs.Call.{load};
-ghost use Rattle.ledger.specs.Calls.{Outcome, step, loadRanged, loadTests};
+ghost use Rattle.ledger.specs.Calls.{loadRanged, loadTests};
 ghost use Rattle.tables.specs.Tables.{Columns};
 ghost use Rattle.register.specs.View.{view};
+ghost use Rattle.register.specs.Written.{seen, does};
 use crate::Head;
 use crate::Reply;
 use crate::enrolling::no_input;
@@ -107,7 +108,7 @@ impl Head {
         most: u32,
         powers: &[u32],
     ) -> Reply
-        ensures { λ r. ⌜ ((cols : Columns) → _≡_ {A = Outcome} (record { ledger = view (r .head) cols (now (rows .exit)); answer = r .answer }) (step (view self cols (now (rows .entry))) (load (now (actor .entry)) (now (category .entry)) day most (now (powers .entry))))) ⌝ }
+        ensures { λ r. ⌜ ((cols : Columns) → seen (record { head = r .head; columns = cols; loads = now (rows .exit) }) (r .answer) ≡ does (record { head = self; columns = cols; loads = now (rows .entry) }) (load (now (actor .entry)) (now (category .entry)) day most (now (powers .entry)))) ⌝ }
     {
         let verdict = self.load_verdict(actor, category, day, most, powers);
         if let Verdict::No(r) = verdict {

@@ -4,10 +4,10 @@ ghost use mathlib.Core.List.{List};
 ghost use Prim.Native.Nat.{ℕ};
 ghost use Rattle.ledger.specs.Call.{enrolActor, enrolCategory, load, file, advance};
 ghost use Rattle.ledger.specs.Ledger.{fresh};
-ghost use Rattle.ledger.specs.Calls.{step};
 ghost use Rattle.tables.specs.Tables.{Columns};
 ghost use Rattle.register.specs.View.{view};
-ghost use Rattle.turns.specs.Told.{Told, told};
+ghost use Rattle.register.specs.Written.{freshHead, does};
+ghost use Rattle.turns.specs.Told.{told, tells};
 use register::Head;
 use turns::Turn;
 use turns::turned;
@@ -15,7 +15,7 @@ use turns::turned;
 // A register that holds nothing, with its clock at day 0, minute 0.
 #[no_mangle]
 pub extern "C" fn register_fresh() -> Head
-    ensures { λ r. ⌜ ((cols : Columns) (loads : List (List ℕ)) → view r cols loads ≡ fresh) ⌝ }
+    ensures { λ r. ⌜ (r ≡ freshHead) × ((cols : Columns) (loads : List (List ℕ)) → view r cols loads ≡ fresh) ⌝ }
 {
     Head::fresh()
 }
@@ -23,7 +23,7 @@ pub extern "C" fn register_fresh() -> Head
 // Enrols an actor with a contract from a first to a last day, and says how many actors there now are.
 #[no_mangle]
 pub extern "C" fn register_enrol_actor(head: Head, code: &[u8], first: u32, last: u32) -> Turn
-    ensures { λ r. ⌜ ((cols : Columns) (loads : List (List ℕ)) → _≡_ {A = Told} (record { ledger = view (r .head) cols loads; said = r .said }) (told (step (view head cols loads) (enrolActor (now (code .entry)) first last)))) ⌝ }
+    ensures { λ r. ⌜ ((cols : Columns) (loads : List (List ℕ)) → tells (record { head = r .head; columns = cols; loads = loads }) (r .said) ≡ told (does (record { head = head; columns = cols; loads = loads }) (enrolActor (now (code .entry)) first last))) ⌝ }
 {
     let reply = head.enrol_actor(code, first, last);
     turned(reply)
@@ -32,7 +32,7 @@ pub extern "C" fn register_enrol_actor(head: Head, code: &[u8], first: u32, last
 // Enrols a category, and says how many there now are.
 #[no_mangle]
 pub extern "C" fn register_enrol_category(head: Head, text: &[u8]) -> Turn
-    ensures { λ r. ⌜ ((cols : Columns) (loads : List (List ℕ)) → _≡_ {A = Told} (record { ledger = view (r .head) cols loads; said = r .said }) (told (step (view head cols loads) (enrolCategory (now (text .entry)))))) ⌝ }
+    ensures { λ r. ⌜ ((cols : Columns) (loads : List (List ℕ)) → tells (record { head = r .head; columns = cols; loads = loads }) (r .said) ≡ told (does (record { head = head; columns = cols; loads = loads }) (enrolCategory (now (text .entry))))) ⌝ }
 {
     let reply = head.enrol_category(text);
     turned(reply)
@@ -49,7 +49,7 @@ pub extern "C" fn register_load(
     approved: u32,
     powers: &[u32],
 ) -> Turn
-    ensures { λ r. ⌜ ((cols : Columns) → _≡_ {A = Told} (record { ledger = view (r .head) cols (now (loads .exit)); said = r .said }) (told (step (view head cols (now (loads .entry))) (load (now (actor .entry)) (now (category .entry)) day approved (now (powers .entry)))))) ⌝ }
+    ensures { λ r. ⌜ ((cols : Columns) → tells (record { head = r .head; columns = cols; loads = now (loads .exit) }) (r .said) ≡ told (does (record { head = head; columns = cols; loads = now (loads .entry) }) (load (now (actor .entry)) (now (category .entry)) day approved (now (powers .entry))))) ⌝ }
 {
     let reply = head.load(loads, actor, category, day, approved, powers);
     turned(reply)
@@ -67,7 +67,7 @@ pub extern "C" fn register_file(
     name: &[u8],
     body: &[u8],
 ) -> Turn
-    ensures { λ r. ⌜ _≡_ {A = Told} (record { ledger = view (r .head) (record { keys = now (keys .exit); marks = now (marks .exit); rows = now (rows .exit) }) (now (loads .entry)); said = r .said }) (told (step (view head (record { keys = now (keys .entry); marks = now (marks .entry); rows = now (rows .entry) }) (now (loads .entry))) (file (now (submitter .entry)) (now (name .entry)) (now (body .entry))))) ⌝ }
+    ensures { λ r. ⌜ tells (record { head = r .head; columns = record { keys = now (keys .exit); marks = now (marks .exit); rows = now (rows .exit) }; loads = now (loads .entry) }) (r .said) ≡ told (does (record { head = head; columns = record { keys = now (keys .entry); marks = now (marks .entry); rows = now (rows .entry) }; loads = now (loads .entry) }) (file (now (submitter .entry)) (now (name .entry)) (now (body .entry)))) ⌝ }
 {
     let reply = head.file(keys, marks, rows, loads, submitter, name, body);
     turned(reply)
@@ -76,7 +76,7 @@ pub extern "C" fn register_file(
 // Advances the clock.
 #[no_mangle]
 pub extern "C" fn register_advance(head: Head, day: u32, minute: u32) -> Turn
-    ensures { λ r. ⌜ ((cols : Columns) (loads : List (List ℕ)) → _≡_ {A = Told} (record { ledger = view (r .head) cols loads; said = r .said }) (told (step (view head cols loads) (advance day minute)))) ⌝ }
+    ensures { λ r. ⌜ ((cols : Columns) (loads : List (List ℕ)) → tells (record { head = r .head; columns = cols; loads = loads }) (r .said) ≡ told (does (record { head = head; columns = cols; loads = loads }) (advance day minute))) ⌝ }
 {
     let reply = head.advance(day, minute);
     turned(reply)

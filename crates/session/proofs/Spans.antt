@@ -8,18 +8,19 @@ use lib.Seq.{take-all, length-take-le}
 use native.Mathlib.Omega.{arith}
 use Rattle.ledger.specs.Ledger.{Ledger}
 use Rattle.ledger.specs.Call as Call
-use Rattle.ledger.specs.Calls.{step}
 use Rattle.ledger.specs.Asking.{askEngagement, askRecord}
 use Rattle.answers.specs.declared.Said.{Said}
 use Rattle.answers.specs.Values.{saidEngaged, saidShown, saidRefused}
-use Rattle.turns.specs.Told.{Told, told}
+use Rattle.register.specs.View.{Register, held}
+use Rattle.register.specs.Written.{does}
+use Rattle.turns.specs.Told.{Told, told, tells}
 use Rattle.lists.proofs.Tests.{true-false}
 use Rattle.script.specs.Lines.{Asked, advance, enrolActor, enrolCategory, load, file, engagement, recordOf, unknown}
 use Rattle.script.specs.Spans.{cut, asked, Within, Read}
 use Rattle.script.specs.declared.reading.Line.{Line}
 use Rattle.script.specs.declared.reading.Line.the-variants.{Advance, EnrolActor, EnrolCategory, Load, File, Engagement, RecordOf, Unknown}
 use Rattle.session.specs.declared.asking.Asking.{Asking}
-use Rattle.session.specs.Lines.{only, noCall, onlyAsks, askStep, lineStep}
+use Rattle.session.specs.Lines.{noCall, onlyAsks, askStep, lineStep}
 
 -- a part that goes to the end of the line is all of its rest
 rest-all : (at : ℕ) (line : List ℕ) → take (length line - at) (drop at line) ≡ drop at line
@@ -38,51 +39,51 @@ on true e = refl
 on false e = e
 
 -- a file that can be read
-pub readable-line : (l : Ledger) (readable : Bool) (body : List ℕ) (a : Asked) → not readable ≡ false →
-    lineStep l true body a ≡ lineStep l readable body a
-readable-line l readable body a e = ap (λ b. lineStep l b body a) (on readable e)
+pub readable-line : (r : Register) (readable : Bool) (body : List ℕ) (a : Asked) → not readable ≡ false →
+    lineStep r true body a ≡ lineStep r readable body a
+readable-line r readable body a e = ap (λ b. lineStep r b body a) (on readable e)
 
-module _ (l : Ledger) (readable : Bool) (body line powers : List ℕ) where
-  pub unknown-line : only l (saidRefused noCall) ≡ lineStep l readable body (asked line Unknown powers)
+module _ (r : Register) (readable : Bool) (body line powers : List ℕ) where
+  pub unknown-line : tells r (saidRefused noCall) ≡ lineStep r readable body (asked line Unknown powers)
   unfolding asked lineStep
   unknown-line = refl
 
-  pub advance-line : (day minute : ℕ) → told (step l (Call.advance day minute)) ≡ lineStep l readable body (asked line (Advance day minute) powers)
+  pub advance-line : (day minute : ℕ) → told (does r (Call.advance day minute)) ≡ lineStep r readable body (asked line (Advance day minute) powers)
   unfolding asked lineStep
   advance-line day minute = refl
 
   pub actor-line : (code first last : ℕ) →
-      told (step l (Call.enrolActor (cut line 2 code) first last)) ≡ lineStep l readable body (asked line (EnrolActor code first last) powers)
+      told (does r (Call.enrolActor (cut line 2 code) first last)) ≡ lineStep r readable body (asked line (EnrolActor code first last) powers)
   unfolding asked lineStep
   actor-line code first last = refl
 
   pub category-line :
-      told (step l (Call.enrolCategory (take (length line - 2) (drop 2 line)))) ≡ lineStep l readable body (asked line EnrolCategory powers)
+      told (does r (Call.enrolCategory (take (length line - 2) (drop 2 line)))) ≡ lineStep r readable body (asked line EnrolCategory powers)
   unfolding asked lineStep
-  category-line = ap (λ text. told (step l (Call.enrolCategory text))) (rest-all 2 line)
+  category-line = ap (λ text. told (does r (Call.enrolCategory text))) (rest-all 2 line)
 
   pub load-line : (actor category day approved count : ℕ) →
-      told (step l (Call.load (cut line 2 actor) (cut line (actor + 1) category) day approved (take count powers)))
-      ≡ lineStep l readable body (asked line (Load actor category day approved count) powers)
+      told (does r (Call.load (cut line 2 actor) (cut line (actor + 1) category) day approved (take count powers)))
+      ≡ lineStep r readable body (asked line (Load actor category day approved count) powers)
   unfolding asked lineStep
   load-line actor category day approved count = refl
 
   pub file-line : (submitter : ℕ) →
-      told (step l (Call.file (cut line 2 submitter) (take (length line - (submitter + 1)) (drop (submitter + 1) line)) body))
-      ≡ lineStep l true body (asked line (File submitter) powers)
+      told (does r (Call.file (cut line 2 submitter) (take (length line - (submitter + 1)) (drop (submitter + 1) line)) body))
+      ≡ lineStep r true body (asked line (File submitter) powers)
   unfolding asked lineStep
-  file-line submitter = ap (λ name. told (step l (Call.file (cut line 2 submitter) name body))) (rest-all (submitter + 1) line)
+  file-line submitter = ap (λ name. told (does r (Call.file (cut line 2 submitter) name body))) (rest-all (submitter + 1) line)
 
   -- a file that can't be read
   pub unreadable-line : (submitter : ℕ) → not readable ≡ true →
-      lineStep l readable body (asked line Unknown powers) ≡ lineStep l readable body (asked line (File submitter) powers)
+      lineStep r readable body (asked line Unknown powers) ≡ lineStep r readable body (asked line (File submitter) powers)
   unfolding asked lineStep
   unreadable-line submitter e = rw (off readable e) refl
 
   -- what is answered to a line by what was read of it is what is answered to the line
-  pub answered : {r form : Line} {before : List ℕ} {a : Asked} {x : Told} → Read line before r powers a → r ≡ form →
-      x ≡ lineStep l readable body (asked line form powers) → x ≡ lineStep l readable body a
-  answered w e s = s ∙ ap (lineStep l readable body) (ap (λ y. asked line y powers) (sym e) ∙ w .says)
+  pub answered : {read form : Line} {before : List ℕ} {a : Asked} {x : Told} → Read line before read powers a → read ≡ form →
+      x ≡ lineStep r readable body (asked line form powers) → x ≡ lineStep r readable body a
+  answered w e s = s ∙ ap (lineStep r readable body) (ap (λ y. asked line y powers) (sym e) ∙ w .says)
 
 -- the two parts of what is told of a line that may only ask
 pub asks-as : {x : Asking} {a b : Bool} {y z : Said} → x ≡ record { asks = a; said = y } → (a ≡ b) × (y ≡ z) → (x .asks ≡ b) × (x .said ≡ z)
@@ -136,25 +137,25 @@ module _ (l : Ledger) (line powers : List ℕ) where
   asks-unknown = (refl, refl)
 
 -- A LINE THAT ONLY ASKS is answered as the definition of a line's step has it
-pub asks-only : (l : Ledger) (readable : Bool) (body : List ℕ) (a : Asked) → onlyAsks a ≡ true → lineStep l readable body a ≡ only l (askStep l a)
+pub asks-only : (r : Register) (readable : Bool) (body : List ℕ) (a : Asked) → onlyAsks a ≡ true → lineStep r readable body a ≡ tells r (askStep (held r) a)
 unfolding onlyAsks askStep lineStep
-asks-only l readable body (advance day minute) e = true-false true refl (sym e)
-asks-only l readable body (enrolActor code first last) e = true-false true refl (sym e)
-asks-only l readable body (enrolCategory text) e = true-false true refl (sym e)
-asks-only l readable body (load actor category day approved powers) e = true-false true refl (sym e)
-asks-only l readable body (file submitter name) e = true-false true refl (sym e)
-asks-only l readable body (engagement actor category day s) e = refl
-asks-only l readable body (recordOf asker id) e = refl
-asks-only l readable body unknown e = refl
+asks-only r readable body (advance day minute) e = true-false true refl (sym e)
+asks-only r readable body (enrolActor code first last) e = true-false true refl (sym e)
+asks-only r readable body (enrolCategory text) e = true-false true refl (sym e)
+asks-only r readable body (load actor category day approved powers) e = true-false true refl (sym e)
+asks-only r readable body (file submitter name) e = true-false true refl (sym e)
+asks-only r readable body (engagement actor category day s) e = refl
+asks-only r readable body (recordOf asker id) e = refl
+asks-only r readable body unknown e = refl
 
-module _ (l : Ledger) (readable : Bool) (body line powers : List ℕ) where
+module _ (r : Register) (readable : Bool) (body line powers : List ℕ) where
   pub engagement-line : (actor category day s : ℕ) →
-      only l (askStep l (asked line (Engagement actor category day s) powers)) ≡ lineStep l readable body (asked line (Engagement actor category day s) powers)
-  engagement-line actor category day s = sym (asks-only l readable body _ (sym (asks-engagement l line powers actor category day s .0)))
+      tells r (askStep (held r) (asked line (Engagement actor category day s) powers)) ≡ lineStep r readable body (asked line (Engagement actor category day s) powers)
+  engagement-line actor category day s = sym (asks-only r readable body _ (sym (asks-engagement (held r) line powers actor category day s .0)))
 
   pub record-line : (asker id : ℕ) →
-      only l (askStep l (asked line (RecordOf asker id) powers)) ≡ lineStep l readable body (asked line (RecordOf asker id) powers)
-  record-line asker id = sym (asks-only l readable body _ (sym (asks-record l line powers asker id .0)))
+      tells r (askStep (held r) (asked line (RecordOf asker id) powers)) ≡ lineStep r readable body (asked line (RecordOf asker id) powers)
+  record-line asker id = sym (asks-only r readable body _ (sym (asks-record (held r) line powers asker id .0)))
 
 -- the spans of a line that was read lie in it
 pub within-form : {line before powers : List ℕ} {r form : Line} {a : Asked} → Read line before r powers a → r ≡ form → Within (length line) form

@@ -1,25 +1,22 @@
--- WHAT A LINE OF THE SCRIPT DOES to the ledger, and what it says (document 01, "The script program"): its call, or 11.
+-- WHAT A LINE OF THE SCRIPT DOES to the register, and what it says (document 01, "The script program"): its call, or 11.
 use mathlib.Core.Bool.{Bool, true, false, cond}
 use mathlib.Core.List.{List}
 use Prim.Native.Nat.{ℕ}
 use Rattle.ledger.specs.Ledger.{Ledger}
 use Rattle.ledger.specs.Call as Call
-use Rattle.ledger.specs.Calls.{step}
 use Rattle.ledger.specs.Asking.{askEngagement, askRecord}
 use Rattle.answers.specs.Values.{saidEngaged, saidShown, saidRefused}
 use Rattle.answers.specs.declared.Said.{Said}
-use Rattle.turns.specs.Told.{Told, told}
+use Rattle.register.specs.View.{Register, held}
+use Rattle.register.specs.Written.{does}
+use Rattle.turns.specs.Told.{Told, told, tells}
 use Rattle.script.specs.Lines.{Asked, advance, enrolActor, enrolCategory, load, file, engagement, recordOf, unknown}
 
 -- "a script line over its length or of no known form .., or a file that can't be read"
 abbrev pub noCall : ℕ
 noCall = 11
 
--- what leaves the ledger as it was
-abbrev pub only : Ledger → Said → Told
-only l said = record { ledger = l; said = said }
-
--- a line that asks for an engagement or a record, or of no known form, leaves the ledger as it was
+-- a line that asks for an engagement or a record, or of no known form, leaves the register as it was
 unfoldable pub onlyAsks : Asked → Bool
 onlyAsks (advance day minute) = false
 onlyAsks (enrolActor code first last) = false
@@ -42,12 +39,12 @@ askStep l (recordOf asker id) = saidShown (askRecord l asker id)
 askStep l unknown = saidRefused noCall
 
 -- `readable`: whether the file that the line names can be read; `body`: its bytes
-unfoldable pub lineStep : Ledger → Bool → List ℕ → Asked → Told
-lineStep l readable body (advance day minute) = told (step l (Call.advance day minute))
-lineStep l readable body (enrolActor code first last) = told (step l (Call.enrolActor code first last))
-lineStep l readable body (enrolCategory text) = told (step l (Call.enrolCategory text))
-lineStep l readable body (load actor category day approved powers) = told (step l (Call.load actor category day approved powers))
-lineStep l readable body (file submitter name) = cond readable (told (step l (Call.file submitter name body))) (only l (saidRefused noCall))
-lineStep l readable body (engagement actor category day s) = only l (saidEngaged (askEngagement l actor category day s))
-lineStep l readable body (recordOf asker id) = only l (saidShown (askRecord l asker id))
-lineStep l readable body unknown = only l (saidRefused noCall)
+unfoldable pub lineStep : Register → Bool → List ℕ → Asked → Told
+lineStep r readable body (advance day minute) = told (does r (Call.advance day minute))
+lineStep r readable body (enrolActor code first last) = told (does r (Call.enrolActor code first last))
+lineStep r readable body (enrolCategory text) = told (does r (Call.enrolCategory text))
+lineStep r readable body (load actor category day approved powers) = told (does r (Call.load actor category day approved powers))
+lineStep r readable body (file submitter name) = cond readable (told (does r (Call.file submitter name body))) (tells r (saidRefused noCall))
+lineStep r readable body (engagement actor category day s) = tells r (saidEngaged (askEngagement (held r) actor category day s))
+lineStep r readable body (recordOf asker id) = tells r (saidShown (askRecord (held r) asker id))
+lineStep r readable body unknown = tells r (saidRefused noCall)

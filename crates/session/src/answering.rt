@@ -2,8 +2,7 @@
 ghost use mathlib.Core.Path.{_≡_};
 ghost use lib.ListN.{length};
 ghost use lib.Seq.{sets};
-ghost use Rattle.register.specs.View.{view};
-ghost use Rattle.turns.specs.Told.{Told};
+ghost use Rattle.turns.specs.Told.{tells};
 ghost use Rattle.script.specs.Lines.{lineOf, powersOf};
 ghost use Rattle.session.specs.Lines.{lineStep};
 use crate::asking;
@@ -26,7 +25,7 @@ pub fn answer(
     readable: bool,
     body: &[u8],
 ) -> Turn
-    ensures { λ r. ⌜ (_≡_ {A = Told} (record { ledger = view (r .head) (record { keys = now (keys .exit); marks = now (marks .exit); rows = now (rows .exit) }) (now (loads .exit)); said = r .said }) (lineStep (view head (record { keys = now (keys .entry); marks = now (marks .entry); rows = now (rows .entry) }) (now (loads .entry))) readable (now (body .entry)) (lineOf (now (line .entry))))) × (now (powers .exit) ≡ sets (now (powers .entry)) 0 (powersOf (lineOf (now (line .entry))))) ⌝ }
+    ensures { λ r. ⌜ (tells (record { head = r .head; columns = record { keys = now (keys .exit); marks = now (marks .exit); rows = now (rows .exit) }; loads = now (loads .exit) }) (r .said) ≡ lineStep (record { head = head; columns = record { keys = now (keys .entry); marks = now (marks .entry); rows = now (rows .entry) }; loads = now (loads .entry) }) readable (now (body .entry)) (lineOf (now (line .entry)))) × (now (powers .exit) ≡ sets (now (powers .entry)) 0 (powersOf (lineOf (now (line .entry))))) ⌝ }
 {
     let asked = read_line(line, &mut *powers);
     match asked {

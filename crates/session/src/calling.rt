@@ -5,8 +5,7 @@ ghost use mathlib.Core.List.{List};
 ghost use Prim.Native.Nat.{ℕ};
 ghost use lib.ListN.{length};
 ghost use Rattle.tables.specs.Tables.{Columns};
-ghost use Rattle.register.specs.View.{view};
-ghost use Rattle.turns.specs.Told.{Told};
+ghost use Rattle.turns.specs.Told.{tells};
 ghost use Rattle.script.specs.Spans.{asked, Within};
 ghost use Rattle.session.specs.Lines.{lineStep};
 use answers::refused;
@@ -20,7 +19,7 @@ const NO_CALL: u32 = 11;
 
 // A line that makes no call.
 pub(crate) fn no_call(head: Head) -> Turn
-    ensures { λ r. ⌜ ((cols : Columns) (loads : List (List ℕ)) (readable : Bool) (body line powers : List ℕ) → _≡_ {A = Told} (record { ledger = view (r .head) cols loads; said = r .said }) (lineStep (view head cols loads) readable body (asked line Line.Unknown powers))) ⌝ }
+    ensures { λ r. ⌜ ((cols : Columns) (loads : List (List ℕ)) (readable : Bool) (body line powers : List ℕ) → tells (record { head = r .head; columns = cols; loads = loads }) (r .said) ≡ lineStep (record { head = head; columns = cols; loads = loads }) readable body (asked line Line.Unknown powers)) ⌝ }
 {
     Turn {
         head: head,
@@ -30,7 +29,7 @@ pub(crate) fn no_call(head: Head) -> Turn
 
 // `T,date,minute`
 pub(crate) fn advance(head: Head, day: u32, minute: u32) -> Turn
-    ensures { λ r. ⌜ ((cols : Columns) (loads : List (List ℕ)) (readable : Bool) (body line powers : List ℕ) → _≡_ {A = Told} (record { ledger = view (r .head) cols loads; said = r .said }) (lineStep (view head cols loads) readable body (asked line (Line.Advance day minute) powers))) ⌝ }
+    ensures { λ r. ⌜ ((cols : Columns) (loads : List (List ℕ)) (readable : Bool) (body line powers : List ℕ) → tells (record { head = r .head; columns = cols; loads = loads }) (r .said) ≡ lineStep (record { head = head; columns = cols; loads = loads }) readable body (asked line (Line.Advance day minute) powers)) ⌝ }
 {
     let reply = head.advance(day, minute);
     turned(reply)
@@ -39,7 +38,7 @@ pub(crate) fn advance(head: Head, day: u32, minute: u32) -> Turn
 // `A,code,first,last`
 pub(crate) fn enrol_actor(head: Head, line: &[u8], code: u32, first: u32, last: u32) -> Turn
     requires { ⌜ Within (length (now line)) (Line.EnrolActor code first last) ⌝ }
-    ensures { λ r. ⌜ ((cols : Columns) (loads : List (List ℕ)) (readable : Bool) (body powers : List ℕ) → _≡_ {A = Told} (record { ledger = view (r .head) cols loads; said = r .said }) (lineStep (view head cols loads) readable body (asked (now (line .entry)) (Line.EnrolActor code first last) powers))) ⌝ }
+    ensures { λ r. ⌜ ((cols : Columns) (loads : List (List ℕ)) (readable : Bool) (body powers : List ℕ) → tells (record { head = r .head; columns = cols; loads = loads }) (r .said) ≡ lineStep (record { head = head; columns = cols; loads = loads }) readable body (asked (now (line .entry)) (Line.EnrolActor code first last) powers)) ⌝ }
 {
     let from: usize = 2;
     let end = code as usize;
@@ -50,7 +49,7 @@ pub(crate) fn enrol_actor(head: Head, line: &[u8], code: u32, first: u32, last: 
 // `C,category`
 pub(crate) fn enrol_category(head: Head, line: &[u8]) -> Turn
     requires { ⌜ Within (length (now line)) Line.EnrolCategory ⌝ }
-    ensures { λ r. ⌜ ((cols : Columns) (loads : List (List ℕ)) (readable : Bool) (body powers : List ℕ) → _≡_ {A = Told} (record { ledger = view (r .head) cols loads; said = r .said }) (lineStep (view head cols loads) readable body (asked (now (line .entry)) Line.EnrolCategory powers))) ⌝ }
+    ensures { λ r. ⌜ ((cols : Columns) (loads : List (List ℕ)) (readable : Bool) (body powers : List ℕ) → tells (record { head = r .head; columns = cols; loads = loads }) (r .said) ≡ lineStep (record { head = head; columns = cols; loads = loads }) readable body (asked (now (line .entry)) Line.EnrolCategory powers)) ⌝ }
 {
     let from: usize = 2;
     let reply = head.enrol_category(&line[from..]);
@@ -70,7 +69,7 @@ pub(crate) fn load(
     count: u32,
 ) -> Turn
     requires { ⌜ Within (length (now line)) (Line.Load actor category day approved count) × (length (now powers) ≡ 256) ⌝ }
-    ensures { λ r. ⌜ ((cols : Columns) (readable : Bool) (body : List ℕ) → _≡_ {A = Told} (record { ledger = view (r .head) cols (now (loads .exit)); said = r .said }) (lineStep (view head cols (now (loads .entry))) readable body (asked (now (line .entry)) (Line.Load actor category day approved count) (now (powers .entry))))) ⌝ }
+    ensures { λ r. ⌜ ((cols : Columns) (readable : Bool) (body : List ℕ) → tells (record { head = r .head; columns = cols; loads = now (loads .exit) }) (r .said) ≡ lineStep (record { head = head; columns = cols; loads = now (loads .entry) }) readable body (asked (now (line .entry)) (Line.Load actor category day approved count) (now (powers .entry)))) ⌝ }
 {
     let first: usize = 2;
     let end = actor as usize;
@@ -100,7 +99,7 @@ pub(crate) fn file(
     body: &[u8],
 ) -> Turn
     requires { ⌜ Within (length (now line)) (Line.File submitter) ⌝ }
-    ensures { λ r. ⌜ ((powers : List ℕ) → _≡_ {A = Told} (record { ledger = view (r .head) (record { keys = now (keys .exit); marks = now (marks .exit); rows = now (rows .exit) }) (now (loads .entry)); said = r .said }) (lineStep (view head (record { keys = now (keys .entry); marks = now (marks .entry); rows = now (rows .entry) }) (now (loads .entry))) Bool.true (now (body .entry)) (asked (now (line .entry)) (Line.File submitter) powers))) ⌝ }
+    ensures { λ r. ⌜ ((powers : List ℕ) → tells (record { head = r .head; columns = record { keys = now (keys .exit); marks = now (marks .exit); rows = now (rows .exit) }; loads = now (loads .entry) }) (r .said) ≡ lineStep (record { head = head; columns = record { keys = now (keys .entry); marks = now (marks .entry); rows = now (rows .entry) }; loads = now (loads .entry) }) Bool.true (now (body .entry)) (asked (now (line .entry)) (Line.File submitter) powers)) ⌝ }
 {
     let first: usize = 2;
     let end = submitter as usize;

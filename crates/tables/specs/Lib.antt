@@ -1,2 +1,3 @@
 -- What the tables of a register hold.
 pub mod Tables
+pub mod More

@@ -1,10 +1,11 @@
 // The enrolled actors, in the order of their enrolment.
 ghost use mathlib.Core.Path.{_≡_};
 ghost use mathlib.Core.List.{_++_, _∷_, []};
-ghost use Prim.Native.Nat.{_+_, _<_, min};
+ghost use Prim.Native.Nat.{_<_, min};
 ghost use lib.ListN.{length};
 ghost use Rattle.lists.specs.Searches.{same};
 ghost use Rattle.ledger.specs.Ledger.{actorAt};
+ghost use Rattle.tables.specs.More.{moreActors};
 ghost use Rattle.tables.specs.Tables.{actorsIn};
 use ledger::Actor;
 
@@ -63,7 +64,7 @@ impl Actors {
     // One actor more, where there is a place.
     pub fn with(self, a: Actor) -> Actors
         requires { ⌜ self .count < 8 ⌝ }
-        ensures { λ r. ⌜ (actorsIn r ≡ actorsIn self ++ (a ∷ [])) × (r .count ≡ self .count + 1) ⌝ }
+        ensures { λ r. ⌜ (actorsIn r ≡ actorsIn self ++ (a ∷ [])) × (r ≡ moreActors self a) ⌝ }
     {
         let mut next = self;
         let at = self.count;

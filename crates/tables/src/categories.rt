@@ -7,6 +7,7 @@ ghost use lib.ListN.{length, take};
 ghost use Rattle.lists.specs.Searches.{same};
 ghost use Rattle.notification.specs.Forms.{isCategory, sixBytes, categoryText};
 ghost use Rattle.ledger.specs.Ledger.{categoryAt};
+ghost use Rattle.tables.specs.More.{moreCategories};
 ghost use Rattle.tables.specs.Tables.{categoriesIn};
 use crate::actors::least;
 
@@ -77,7 +78,7 @@ impl Categories {
     // One category more, where there is a place.
     pub fn with(self, z: Category) -> Categories
         requires { ⌜ self .count < 4 ⌝ }
-        ensures { λ r. ⌜ (categoriesIn r ≡ categoriesIn self ++ (categoryText (z .text) ∷ [])) × (r .count ≡ self .count + 1) ⌝ }
+        ensures { λ r. ⌜ (categoriesIn r ≡ categoriesIn self ++ (categoryText (z .text) ∷ [])) × (r ≡ moreCategories self z) ⌝ }
     {
         let mut next = self;
         let at = self.count;

@@ -7,6 +7,7 @@ ghost use lib.Dec.{eqb, leb};
 ghost use lib.ListN.{length, getD, set};
 ghost use Rattle.lists.specs.Searches.{every};
 ghost use Rattle.notification.specs.Forms.{inPlaces};
+ghost use Rattle.tables.specs.More.{moreLoads};
 ghost use Rattle.tables.specs.Tables.{noneOfFour, lastBelow, loadNumber, loadsIn, lastLoad, loadMost, loadRow};
 use crate::actors::least;
 
@@ -102,7 +103,7 @@ impl Loads {
     // One load more, where there is a place.
     pub fn with(self, number: u32, most: u16) -> Loads
         requires { ⌜ self .count < 64 ⌝ }
-        ensures { λ r. ⌜ ((rows : List (List ℕ)) (row : List ℕ) → length rows ≡ 64 → loadsIn r (set rows (self .count) row) ≡ record { actor = number % 8; category = number / 8 % 4; day = number / 32; approved = most; powers = row } ∷ loadsIn self rows) × (r .count ≡ self .count + 1) ⌝ }
+        ensures { λ r. ⌜ ((rows : List (List ℕ)) (row : List ℕ) → length rows ≡ 64 → loadsIn r (set rows (self .count) row) ≡ record { actor = number % 8; category = number / 8 % 4; day = number / 32; approved = most; powers = row } ∷ loadsIn self rows) × (r ≡ moreLoads self number most) ⌝ }
     {
         let mut next = self;
         let at = self.count;

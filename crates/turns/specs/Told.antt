@@ -1,12 +1,19 @@
--- THE LEDGER THAT A CALL LEAVES, AND WHAT IT SAYS in document 01's numbers and values.
+-- THE REGISTER THAT A CALL LEAVES, the ledger that this holds, and WHAT IT SAYS in document 01's numbers and values.
 use Rattle.ledger.specs.Ledger.{Ledger}
-use Rattle.ledger.specs.Calls.{Outcome}
 use Rattle.answers.specs.Values.{saidOf}
 use Rattle.answers.specs.declared.Said.{Said}
+use Rattle.register.specs.View.{Register, held}
+use Rattle.register.specs.Written.{Done}
 
 pub record Told : Type 0 where
+  pub register : Register
   pub ledger : Ledger
   pub said : Said
 
-abbrev pub told : Outcome → Told
-told o = record { ledger = o .ledger; said = saidOf (o .answer) }
+-- what is told of a call
+abbrev pub told : Done → Told
+told d = record { register = d .register; ledger = d .outcome .ledger; said = saidOf (d .outcome .answer) }
+
+-- what is seen of it: the register after it, the ledger that this holds, and what is said
+abbrev pub tells : Register → Said → Told
+tells r said = record { register = r; ledger = held r; said = said }

@@ -1,10 +1,6 @@
 // What a call of the register leaves and says.
 ghost use mathlib.Core.Path.{_≡_};
-ghost use mathlib.Core.List.{List};
-ghost use Prim.Native.Nat.{ℕ};
-ghost use Rattle.tables.specs.Tables.{Columns};
-ghost use Rattle.register.specs.View.{view};
-ghost use Rattle.turns.specs.Told.{Told, told};
+ghost use Rattle.answers.specs.Values.{saidOf};
 use answers::Said;
 use answers::of_answer;
 use register::Head;
@@ -19,7 +15,7 @@ pub struct Turn {
 
 // A reply in numbers and values.
 pub fn turned(reply: Reply) -> Turn
-    ensures { λ r. ⌜ ((cols : Columns) (loads : List (List ℕ)) → _≡_ {A = Told} (record { ledger = view (r .head) cols loads; said = r .said }) (told (record { ledger = view (reply .head) cols loads; answer = reply .answer }))) ⌝ }
+    ensures { λ r. ⌜ r ≡ record { head = reply .head; said = saidOf (reply .answer) } ⌝ }
 {
     let head = reply.head;
     let answer = reply.answer;

@@ -11,7 +11,7 @@ of-answer-requires c κs = search needs
 
 -- src/calls.rt:17:1
 returns : tie.Need-returns
-returns c = λ cols loads. cc
+returns c = cc
 
 pub turned-spec : {M : Type 1} → statement M
 turned-spec = tie.close (tie.spec of-answer-requires returns)

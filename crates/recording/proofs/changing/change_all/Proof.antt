@@ -5,7 +5,8 @@ use native.Mathlib.Omega.{arith}
 use lib.ListN.{length}
 use Rattle.tables.specs.Tables.{Columns, isUnder, reached, Listed}
 use Rattle.tables.proofs.Listing.{listed-end}
-use Rattle.recording.proofs.Changes.{Passed, passed-none, passed-same, passed-listed}
+use Rattle.recording.specs.Recording.{Changed}
+use Rattle.recording.proofs.Changes.{changed-none, changed-same, changed-listed}
 use borrow.Author.Needs.{needs}
 use Rattle.recording.proofs.changing.change_all.Statement.{statement}
 use Rattle.recording.proofs.changing.change_all.Tie as tie
@@ -13,7 +14,7 @@ use Rattle.recording.proofs.changing.change_all.Tie as tie
 abbrev Inv-loop : tie.InvT-loop
 Inv-loop statuses₀ keys marks₀ rows places count paired clock by own ps all-statuses all-marks j₀ statuses marks j =
     (j ≤ count) × (length statuses₀ ≡ 256) × (length marks₀ ≡ 256)
-    × ((n : ℕ) → Listed (isUnder keys own) n count places → Passed paired clock by own ps (reached places j)
+    × ((n : ℕ) → Listed (isUnder keys own) n count places → Changed paired clock by own ps (reached places j)
     (record { keys = keys; marks = marks₀; rows = rows }) (record { keys = keys; marks = marks; rows = rows }) statuses₀ statuses)
 
 abbrev μ-loop : tie.MeasureT-loop
@@ -31,7 +32,7 @@ loop-holds c =
       omega arith,
       c .before .before .before .before .statuses-long-arg2 .given .0,
       c .before .marks-long-arg2 .given .0,
-      (λ n l. passed-none (p .paired) (p .clock) (p .by) (p .own) (p .ps)
+      (λ n l. changed-none (p .paired) (p .clock) (p .by) (p .own) (p .ps)
           (record { keys = p .keys .now; marks = p .marks .now; rows = p .rows .now }) (p .statuses .now)),
     )
 
@@ -65,7 +66,7 @@ loop-again c =
       q .inv .1,
       q .inv .2,
       (λ n l.
-          passed-listed (p .paired) (p .clock) (p .by) (p .own) (p .ps) n (p .count) (q .j) i (p .places .now) (p .keys .now) (p .statuses .now)
+          changed-listed (p .paired) (p .clock) (p .by) (p .own) (p .ps) n (p .count) (q .j) i (p .places .now) (p .keys .now) (p .statuses .now)
           (q .statuses) _ (p .rows .now) (p .marks .now) (q .marks) _ l (omega arith) (c .before .before .before .byte .ensures .0) h m (q .inv .3 n l) (c .change-at .ensures)),
     )
 
@@ -78,10 +79,9 @@ returns c =
     let e : q .j ≡ p .count = omega arith in
     λ n l.
     listed-end (isUnder (p .keys .now) (p .own)) n (p .count) (p .places .now) l
-    (λ i. Passed (p .paired) (p .clock) (p .by) (p .own) (p .ps) i cols is (p .statuses .now) (q .statuses))
-    (λ i e f. passed-same (p .paired) (p .clock) (p .by) (p .own) (p .ps) i (p .keys .now) (p .statuses .now) (q .statuses) (p .rows .now) (p .marks .now) (q .marks) e f)
-    (subst (λ j. Passed (p .paired) (p .clock) (p .by) (p .own) (p .ps) (reached (p .places .now) j) cols is (p .statuses .now) (q .statuses)) e (q .inv .3 n l))
-    .below
+    (λ i. Changed (p .paired) (p .clock) (p .by) (p .own) (p .ps) i cols is (p .statuses .now) (q .statuses))
+    (λ i e f. changed-same (p .paired) (p .clock) (p .by) (p .own) (p .ps) i (p .keys .now) (p .statuses .now) (q .statuses) (p .rows .now) (p .marks .now) (q .marks) f e)
+    (subst (λ j. Changed (p .paired) (p .clock) (p .by) (p .own) (p .ps) (reached (p .places .now) j) cols is (p .statuses .now) (q .statuses)) e (q .inv .3 n l))
 
 pub change-all-spec : {M : Type 1} → statement M
 change-all-spec =

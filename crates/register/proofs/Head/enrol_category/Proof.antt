@@ -1,10 +1,12 @@
 -- `Head::enrol_category` meets its contract: the verdict decides, and the head has one category more.
 use mathlib.Core.Path.{ap, _∙_}
+use Rattle.register.specs.declared.Reply.{Reply}
 use Rattle.ledger.specs.Call.{enrolCategory}
 use Rattle.ledger.specs.Calls.{verdictOf}
+use Rattle.tables.specs.declared.categories.Categories.{Categories}
 use Rattle.tables.proofs.Entries.{categories-length}
-use Rattle.register.specs.View.{view, outcome}
-use Rattle.register.proofs.Steps.{step-refused, step-passed, category-room, category-done}
+use Rattle.register.specs.Written.{seen}
+use Rattle.register.proofs.Steps.{does-refused, does-passed, category-room, category-done, category-put}
 use borrow.Author.Needs.{needs}
 use Rattle.register.proofs.Head.enrol_category.Statement.{statement}
 use Rattle.register.proofs.Head.enrol_category.Tie as tie
@@ -23,7 +25,9 @@ unfolding verdictOf
 returns c =
     let v = c .before .before .before .before in
     let a = v .before .before .args in
-    λ cols loads. ap (λ y. outcome y cols loads) (c .refused .ensures) ∙ step-refused (view (a .self) cols loads) (enrolCategory (a .text .now)) _ _ (v .category-verdict .ensures cols loads) (c .before .before .verdict .given .1)
+    λ cols loads.
+    ap (λ (y : Reply). seen (record { head = y .head; columns = cols; loads = loads }) (y .answer)) (c .refused .ensures)
+    ∙ does-refused (record { head = a .self; columns = cols; loads = loads }) (enrolCategory (a .text .now)) _ _ (v .category-verdict .ensures cols loads) (c .before .before .verdict .given .1)
 
 enum-told : tie.Need-enum-told
 enum-told c = search needs
@@ -53,8 +57,9 @@ returns-2 c =
     let l = categories-length (a .self .categories) _ (b .good .0 .1 .1 .1 .1 .0) in
     let r = category-room (a .self) (a .text .now) _ l (v .category-verdict .ensures) (c .before .before .before .enum-told .given .1) in
     λ cols loads.
-    category-done (a .self) cols loads (a .text .now) _ (c .with .result) l (r .1) (r .0) (c .before .before .six .ensures) (c .with .ensures .0) (c .with .ensures .1)
-    ∙ step-passed (view (a .self) cols loads) (enrolCategory (a .text .now)) _ (v .category-verdict .ensures cols loads) (c .before .before .before .enum-told .given .1)
+    does-passed (record { head = a .self; columns = cols; loads = loads }) _ (enrolCategory (a .text .now)) _ _ (v .category-verdict .ensures cols loads) (c .before .before .before .enum-told .given .1)
+    (category-put (record { head = a .self; columns = cols; loads = loads }) (a .text .now) _ (c .with .result) (c .before .before .six .ensures) (c .with .ensures .1))
+    (category-done (a .self) cols loads (a .text .now) _ (c .with .result) l (r .1) (r .0) (c .before .before .six .ensures) (c .with .ensures .0) (ap (λ (x : Categories). x .count) (c .with .ensures .1)))
 
 pub enrol-category-spec : {M : Type 1} → statement M
 enrol-category-spec =

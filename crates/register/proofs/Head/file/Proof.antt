@@ -1,9 +1,13 @@
 -- `Head::file` meets its contract: a file is read, and then its notification is judged and recorded.
-use mathlib.Core.Path.{sym, ap, _∙_}
+use mathlib.Core.Path.{refl, sym, ap, _∙_}
 use Rattle.tables.specs.Tables.{Columns}
-use Rattle.register.specs.View.{view, outcome}
+use Rattle.ledger.specs.Call.{file}
+use Rattle.register.specs.View.{Register, held}
+use Rattle.register.specs.Written.{Done, seen}
+use Rattle.register.specs.declared.Reply.{Reply}
 use Rattle.register.proofs.Filings.{fileable-of}
-use Rattle.register.proofs.Notes.{note-refused, note-passed, file-refused, file-passed}
+use Rattle.register.proofs.Steps.{does-refused, does-passed}
+use Rattle.register.proofs.Notes.{file-unread, file-verdict, file-effect, file-put}
 use borrow.Author.Needs.{needs}
 use Rattle.register.proofs.Head.file.Statement.{statement}
 use Rattle.register.proofs.Head.file.Tie as tie
@@ -20,9 +24,11 @@ refused-requires c κs = search needs
 returns : tie.Need-returns
 returns c =
     let a = c .before .before .before .before .before .before .before .before .args in
-    let cols : Columns = record { keys = a .keys .now; marks = a .marks .now; rows = a .rows .now } in
-    ap (λ y. outcome y cols (a .loads .now)) (c .refused .ensures)
-    ∙ file-refused (view (a .self) cols (a .loads .now)) (a .submitter .now) (a .name .now) (a .body .now) _ (c .before .before .before .before .read-file .ensures) _ (c .before .before .verdict .given .1)
+    let r : Register =
+    record { head = a .self; columns = record { keys = a .keys .now; marks = a .marks .now; rows = a .rows .now }; loads = a .loads .now } in
+    ap (λ (y : Reply). seen (record { head = y .head; columns = r .columns; loads = r .loads }) (y .answer)) (c .refused .ensures)
+    ∙ does-refused r (file (a .submitter .now) (a .name .now) (a .body .now)) _ _
+    (file-unread (held r) (a .submitter .now) (a .name .now) (a .body .now) _ (c .before .before .before .before .read-file .ensures) _ (c .before .before .verdict .given .1)) refl
 
 enum-told : tie.Need-enum-told
 enum-told c = search needs
@@ -42,11 +48,14 @@ refused-requires-2 c κs = search needs
 returns-2 : tie.Need-returns-2
 returns-2 c =
     let a = c .before .before .before .before .before .before .before .before .before .before .before .before .before .before .before .before .before .before .args in
-    let cols : Columns = record { keys = a .keys .now; marks = a .marks .now; rows = a .rows .now } in
-    let l = view (a .self) cols (a .loads .now) in
-    ap (λ y. outcome y cols (a .loads .now)) (c .refused2 .ensures)
-    ∙ (note-refused l (a .submitter .now) (c .before .before .before .before .before .before .before .before .before .before .before .before .before .before .read-file .result .notification) _ (c .before .before .before .before .before .before .before .before .before .before .places .ensures cols (a .loads .now)) _ _ (c .before .before .before .before .judge .ensures .0) (c .before .before .verdict2 .given .1)
-    ∙ file-passed l (a .submitter .now) (a .name .now) (a .body .now) _ (c .before .before .before .before .before .before .before .before .before .before .before .before .before .before .read-file .ensures) (c .before .before .before .before .before .before .before .before .before .before .before .before .enum-told .given .1))
+    let r : Register =
+    record { head = a .self; columns = record { keys = a .keys .now; marks = a .marks .now; rows = a .rows .now }; loads = a .loads .now } in
+    let x = c .before .before .before .before .before .before .before .before .before .before .before .before .before .before .read-file in
+    let at = c .before .before .before .before .before .before .before .before .before .before .places in
+    let p = at .ensures (r .columns) (r .loads) in
+    let judged = c .before .before .before .before .judge .ensures .0 ∙ file-verdict (held r) (a .submitter .now) (a .name .now) (a .body .now) _ (x .ensures) _ p (c .before .before .before .before .before .before .before .before .before .before .before .before .enum-told .given .1) in
+    ap (λ (y : Reply). seen (record { head = y .head; columns = r .columns; loads = r .loads }) (y .answer)) (c .refused2 .ensures)
+    ∙ does-refused r (file (a .submitter .now) (a .name .now) (a .body .now)) _ _ judged (c .before .before .verdict2 .given .1)
 
 enum-told-2 : tie.Need-enum-told-2
 enum-told-2 c = search needs
@@ -63,11 +72,16 @@ record-note-requires c κs =
 returns-3 : tie.Need-returns-3
 returns-3 c =
     let a = c .before .before .before .before .before .before .before .before .before .before .before .before .before .before .before .before .before .before .before .before .before .args in
-    let cols : Columns = record { keys = a .keys .now; marks = a .marks .now; rows = a .rows .now } in
-    let l = view (a .self) cols (a .loads .now) in
-    c .record-note .ensures (a .loads .now)
-    ∙ (note-passed l (a .submitter .now) (c .before .before .before .before .before .before .before .before .before .before .before .before .before .before .before .before .before .read-file .result .notification) _ (c .before .before .before .before .before .before .before .before .before .before .before .before .before .places .ensures cols (a .loads .now)) _ (c .before .before .before .before .before .before .before .judge .ensures .0) (c .before .before .before .before .before .enum-told2 .given .1)
-    ∙ file-passed l (a .submitter .now) (a .name .now) (a .body .now) _ (c .before .before .before .before .before .before .before .before .before .before .before .before .before .before .before .before .before .read-file .ensures) (c .before .before .before .before .before .before .before .before .before .before .before .before .before .before .before .enum-told .given .1))
+    let r : Register =
+    record { head = a .self; columns = record { keys = a .keys .now; marks = a .marks .now; rows = a .rows .now }; loads = a .loads .now } in
+    let x = c .before .before .before .before .before .before .before .before .before .before .before .before .before .before .before .before .before .read-file in
+    let at = c .before .before .before .before .before .before .before .before .before .before .before .before .before .places in
+    let p = at .ensures (r .columns) (r .loads) in
+    let judged = c .before .before .before .before .before .before .before .judge .ensures .0 ∙ file-verdict (held r) (a .submitter .now) (a .name .now) (a .body .now) _ (x .ensures) _ p (c .before .before .before .before .before .before .before .before .before .before .before .before .before .before .before .enum-told .given .1) in
+    let done = c .record-note .ensures (r .loads) in
+    does-passed r _ (file (a .submitter .now) (a .name .now) (a .body .now)) _ _ judged (c .before .before .before .before .before .enum-told2 .given .1)
+    (ap (λ (d : Done). d .register) done ∙ file-put r (a .submitter .now) (a .name .now) (a .body .now) _ (x .ensures) _ p)
+    (ap (λ (d : Done). d .outcome) done ∙ file-effect (held r) (a .submitter .now) (a .name .now) (a .body .now) _ (x .ensures) _ p)
 
 pub file-spec : {M : Type 1} → statement M
 file-spec =

@@ -4,9 +4,11 @@ use native.Mathlib.Omega.{arith}
 use lib.ListN.{length}
 use Rattle.ledger.specs.Call.{load}
 use Rattle.ledger.specs.Calls.{verdictOf}
+use Rattle.tables.specs.declared.loads.Loads.{Loads}
+use Rattle.register.specs.declared.Reply.{Reply}
 use Rattle.tables.proofs.Entries.{actors-length, categories-length}
-use Rattle.register.specs.View.{view, outcome}
-use Rattle.register.proofs.Steps.{step-refused, step-passed, load-room, load-done}
+use Rattle.register.specs.Written.{seen}
+use Rattle.register.proofs.Steps.{does-refused, does-passed, load-room, load-done, load-put}
 use borrow.Author.Needs.{needs}
 use Rattle.register.proofs.Head.load.Statement.{statement}
 use Rattle.register.proofs.Head.load.Tie as tie
@@ -25,7 +27,9 @@ unfolding verdictOf
 returns c =
     let v = c .before .before .before .before in
     let a = v .before .before .before .before .args in
-    λ cols. ap (λ y. outcome y cols (a .rows .now)) (c .refused .ensures) ∙ step-refused (view (a .self) cols (a .rows .now)) (load (a .actor .now) (a .category .now) (a .day) (a .most) (a .powers .now)) _ _ (v .load-verdict .ensures cols (a .rows .now)) (c .before .before .verdict .given .1)
+    λ cols.
+    ap (λ (y : Reply). seen (record { head = y .head; columns = cols; loads = a .rows .now }) (y .answer)) (c .refused .ensures)
+    ∙ does-refused (record { head = a .self; columns = cols; loads = a .rows .now }) (load (a .actor .now) (a .category .now) (a .day) (a .most) (a .powers .now)) _ _ (v .load-verdict .ensures cols (a .rows .now)) (c .before .before .verdict .given .1)
 
 enum-told : tie.Need-enum-told
 enum-told c = search needs
@@ -80,10 +84,24 @@ rows-of-requires : tie.Need-rows-of-requires
 rows-of-requires c κs = search needs
 
 cast-row : tie.Need-cast-row
-cast-row c = search needs
+cast-row c =
+    let v = c .before .before .before .before .before .before .before .before .before .before .before .before .before in
+    let b = v .before .before .before .before in
+    let a = b .args in
+    let la = actors-length (a .self .actors) _ (b .good .0 .1 .1 .1 .0) in
+    let lz = categories-length (a .self .categories) _ (b .good .0 .1 .1 .1 .1 .0) in
+    let ok = load-room (a .self) (a .actor .now) (a .category .now) (a .day) (a .most) (a .powers .now) _ la lz (v .load-verdict .ensures) (c .before .before .before .before .before .before .before .before .before .before .before .enum-told .given .1) in
+    omega (arith, ok .room)
 
 mul-row : tie.Need-mul-row
-mul-row c = search needs
+mul-row c =
+    let v = c .before .before .before .before .before .before .before .before .before .before .before .before .before in
+    let b = v .before .before .before .before in
+    let a = b .args in
+    let la = actors-length (a .self .actors) _ (b .good .0 .1 .1 .1 .0) in
+    let lz = categories-length (a .self .categories) _ (b .good .0 .1 .1 .1 .1 .0) in
+    let ok = load-room (a .self) (a .actor .now) (a .category .now) (a .day) (a .most) (a .powers .now) _ la lz (v .load-verdict .ensures) (c .before .before .before .before .before .before .before .before .before .before .before .enum-told .given .1) in
+    omega (arith, ok .room)
 
 element-set-from-row : tie.Need-element-set-from-row
 element-set-from-row c =
@@ -106,9 +124,10 @@ returns-2 c =
     let ok = load-room (a .self) (a .actor .now) (a .category .now) (a .day) (a .most) (a .powers .now) _ la lz (v .load-verdict .ensures) (c .before .before .before .before .before .before .before .before .before .before .before .enum-told .given .1) in
     let l : length (a .rows .now) ≡ 64 = c .before .rows-of-arg2 .given .0 in
     λ cols.
-    load-done (a .self) cols (a .rows .now) (a .actor .now) (a .category .now) (a .day) (a .most) (a .powers .now) _ _ _ _ (c .before .before .before .before .with .result)
-    (c .before .before .before .before .before .before .before .before .place .ensures) (c .before .before .before .before .before .before .before .place2 .ensures) (c .before .before .before .before .before .before .load-number .ensures) ok l (c .before .before .before .in-places .ensures) (c .before .before .before .before .with .ensures .0) (c .before .before .before .before .with .ensures .1)
-    ∙ step-passed (view (a .self) cols (a .rows .now)) (load (a .actor .now) (a .category .now) (a .day) (a .most) (a .powers .now)) _ (v .load-verdict .ensures cols (a .rows .now)) (c .before .before .before .before .before .before .before .before .before .before .before .enum-told .given .1)
+    does-passed (record { head = a .self; columns = cols; loads = a .rows .now }) _ (load (a .actor .now) (a .category .now) (a .day) (a .most) (a .powers .now)) _ _ (v .load-verdict .ensures cols (a .rows .now)) (c .before .before .before .before .before .before .before .before .before .before .before .enum-told .given .1)
+    (load-put (record { head = a .self; columns = cols; loads = a .rows .now }) (a .actor .now) (a .category .now) (a .day) (a .most) (a .powers .now) _ _ _ _ (c .before .before .before .before .with .result) (c .before .before .before .before .before .before .before .before .place .ensures) (c .before .before .before .before .before .before .before .place2 .ensures) (c .before .before .before .before .before .before .load-number .ensures) (c .before .before .before .in-places .ensures) (c .before .before .before .before .with .ensures .1))
+    (load-done (a .self) cols (a .rows .now) (a .actor .now) (a .category .now) (a .day) (a .most) (a .powers .now) _ _ _ _ (c .before .before .before .before .with .result)
+    (c .before .before .before .before .before .before .before .before .place .ensures) (c .before .before .before .before .before .before .before .place2 .ensures) (c .before .before .before .before .before .before .load-number .ensures) ok l (c .before .before .before .in-places .ensures) (c .before .before .before .before .with .ensures .0) (ap (λ (x : Loads). x .count) (c .before .before .before .before .with .ensures .1)))
 
 pub load-spec : {M : Type 1} → statement M
 load-spec =

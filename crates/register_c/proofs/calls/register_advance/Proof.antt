@@ -1,5 +1,4 @@
-use mathlib.Core.Path.{_≡_, ap, sym, _∙_}
-use Rattle.turns.specs.Told.{told}
+use Rattle.turns.proofs.Telling.{tells-done}
 use borrow.Author.Needs.{needs}
 use Rattle.register_c.proofs.calls.register_advance.Statement.{statement}
 use Rattle.register_c.proofs.calls.register_advance.Tie as tie
@@ -18,7 +17,7 @@ turned-requires c κs = search needs
 
 -- src/calls.rt:90:1
 returns : tie.Need-returns
-returns c = λ cols loads. c .turned .ensures cols loads ∙ ap told (c .before .advance .ensures cols loads)
+returns c = λ cols loads. tells-done (c .turned .ensures) (c .before .advance .ensures cols loads)
 
 pub register-advance-spec : {M : Type 1} → statement M
 register-advance-spec = tie.close (tie.spec advance-requires turned-requires returns)

@@ -1,5 +1,4 @@
-use mathlib.Core.Path.{_≡_, ap, sym, _∙_}
-use Rattle.turns.specs.Told.{told}
+use Rattle.turns.proofs.Telling.{tells-done}
 use borrow.Author.Needs.{needs}
 use Rattle.register_c.proofs.calls.register_enrol_category.Statement.{statement}
 use Rattle.register_c.proofs.calls.register_enrol_category.Tie as tie
@@ -18,7 +17,7 @@ turned-requires c κs = search needs
 
 -- src/calls.rt:46:1
 returns : tie.Need-returns
-returns c = λ cols loads. c .turned .ensures cols loads ∙ ap told (c .before .enrol-category .ensures cols loads)
+returns c = λ cols loads. tells-done (c .turned .ensures) (c .before .enrol-category .ensures cols loads)
 
 pub register-enrol-category-spec : {M : Type 1} → statement M
 register-enrol-category-spec = tie.close (tie.spec enrol-category-requires turned-requires returns)

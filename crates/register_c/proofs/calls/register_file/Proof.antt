@@ -1,5 +1,4 @@
-use mathlib.Core.Path.{_≡_, ap, sym, _∙_}
-use Rattle.turns.specs.Told.{told}
+use Rattle.turns.proofs.Telling.{tells-done}
 use borrow.Author.Needs.{needs}
 use Rattle.register_c.proofs.calls.register_file.Statement.{statement}
 use Rattle.register_c.proofs.calls.register_file.Tie as tie
@@ -18,7 +17,7 @@ turned-requires c κs = search needs
 
 -- src/calls.rt:72:1
 returns : tie.Need-returns
-returns c = c .turned .ensures _ _ ∙ ap told (c .before .file .ensures)
+returns c = tells-done (c .turned .ensures) (c .before .file .ensures)
 
 pub register-file-spec : {M : Type 1} → statement M
 register-file-spec = tie.close (tie.spec file-requires turned-requires returns)

@@ -1,5 +1,4 @@
-use mathlib.Core.Path.{_≡_, ap, sym, _∙_}
-use Rattle.turns.specs.Told.{told}
+use Rattle.turns.proofs.Telling.{tells-done}
 use borrow.Author.Needs.{needs}
 use Rattle.register_c.proofs.calls.register_load.Statement.{statement}
 use Rattle.register_c.proofs.calls.register_load.Tie as tie
@@ -18,7 +17,7 @@ turned-requires c κs = search needs
 
 -- src/calls.rt:55:1
 returns : tie.Need-returns
-returns c = λ cols. c .turned .ensures cols _ ∙ ap told (c .before .load .ensures cols)
+returns c = λ cols. tells-done (c .turned .ensures) (c .before .load .ensures cols)
 
 pub register-load-spec : {M : Type 1} → statement M
 register-load-spec = tie.close (tie.spec load-requires turned-requires returns)

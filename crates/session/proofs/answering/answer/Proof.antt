@@ -1,6 +1,6 @@
 use mathlib.Core.Path.{_≡_, sym, ap, _∙_}
 use Rattle.session.proofs.Spans.{answered, within-form, unreadable-line, readable-line, engagement-line, record-line}
-use Rattle.session.specs.Lines.{only}
+use Rattle.turns.specs.Told.{tells}
 use borrow.Author.Needs.{needs}
 use Rattle.session.proofs.answering.answer.Statement.{statement}
 use Rattle.session.proofs.answering.answer.Tie as tie
@@ -114,11 +114,11 @@ returns-6 c = (answered _ _ _ _ _ (c .before .before .before .before .before .be
 
 -- src/answering.rt:18:1
 returns-7 : tie.Need-returns-7
-returns-7 c = (answered _ _ _ _ _ (c .before .before .before .before .before .before .before .before .read-line .ensures) (c .before .before .before .before .before .before .asked5 .given .1) (ap (only _) (c .engagement .ensures _) ∙ engagement-line _ _ _ _ _ _ _ _ _), c .before .before .before .before .before .before .before .before .read-line .ensures .holds)
+returns-7 c = (answered _ _ _ _ _ (c .before .before .before .before .before .before .before .before .read-line .ensures) (c .before .before .before .before .before .before .asked5 .given .1) (ap (tells _) (c .engagement .ensures _) ∙ engagement-line _ _ _ _ _ _ _ _ _), c .before .before .before .before .before .before .before .before .read-line .ensures .holds)
 
 -- src/answering.rt:18:1
 returns-8 : tie.Need-returns-8
-returns-8 c = (answered _ _ _ _ _ (c .before .before .before .before .before .before .before .read-line .ensures) (c .before .before .before .before .before .asked6 .given .1) (ap (only _) (c .«record» .ensures _ _) ∙ record-line _ _ _ _ _ _ _), c .before .before .before .before .before .before .before .read-line .ensures .holds)
+returns-8 c = (answered _ _ _ _ _ (c .before .before .before .before .before .before .before .read-line .ensures) (c .before .before .before .before .before .asked6 .given .1) (ap (tells _) (c .«record» .ensures _ _) ∙ record-line _ _ _ _ _ _ _), c .before .before .before .before .before .before .before .read-line .ensures .holds)
 
 -- src/answering.rt:18:1
 returns-9 : tie.Need-returns-9

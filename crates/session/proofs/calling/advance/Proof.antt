@@ -1,5 +1,5 @@
 use mathlib.Core.Path.{_≡_, ap, _∙_}
-use Rattle.turns.specs.Told.{told}
+use Rattle.turns.proofs.Telling.{tells-done}
 use Rattle.session.proofs.Spans.{advance-line}
 use borrow.Author.Needs.{needs}
 use Rattle.session.proofs.calling.advance.Statement.{statement}
@@ -19,7 +19,7 @@ turned-requires c κs = search needs
 
 -- src/calling.rt:32:1
 returns : tie.Need-returns
-returns c = λ cols loads readable body line powers. c .turned .ensures cols loads ∙ (ap told (c .before .advance .ensures cols loads) ∙ advance-line _ readable body line powers _ _)
+returns c = λ cols loads readable body line powers. tells-done (c .turned .ensures) (c .before .advance .ensures cols loads) ∙ advance-line _ readable body line powers _ _
 
 pub advance-spec : {M : Type 1} → statement M
 advance-spec = tie.close (tie.spec advance-requires turned-requires returns)

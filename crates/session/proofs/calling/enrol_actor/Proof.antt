@@ -1,5 +1,5 @@
 use mathlib.Core.Path.{_≡_, ap, _∙_}
-use Rattle.turns.specs.Told.{told}
+use Rattle.turns.proofs.Telling.{tells-done}
 use Rattle.session.proofs.Spans.{actor-line}
 use borrow.Author.Needs.{needs}
 use Rattle.session.proofs.calling.enrol_actor.Statement.{statement}
@@ -31,7 +31,7 @@ turned-requires c κs = search needs
 
 -- src/calling.rt:40:1
 returns : tie.Need-returns
-returns c = λ cols loads readable body powers. c .turned .ensures cols loads ∙ (ap told (c .before .enrol-actor .ensures cols loads) ∙ actor-line _ readable body _ powers _ _ _)
+returns c = λ cols loads readable body powers. tells-done (c .turned .ensures) (c .before .enrol-actor .ensures cols loads) ∙ actor-line _ readable body _ powers _ _ _
 
 pub enrol-actor-spec : {M : Type 1} → statement M
 enrol-actor-spec =

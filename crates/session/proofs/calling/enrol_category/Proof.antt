@@ -1,5 +1,5 @@
 use mathlib.Core.Path.{_≡_, ap, _∙_}
-use Rattle.turns.specs.Told.{told}
+use Rattle.turns.proofs.Telling.{tells-done}
 use Rattle.session.proofs.Spans.{category-line}
 use borrow.Author.Needs.{needs}
 use Rattle.session.proofs.calling.enrol_category.Statement.{statement}
@@ -31,7 +31,7 @@ turned-requires c κs = search needs
 
 -- src/calling.rt:51:1
 returns : tie.Need-returns
-returns c = λ cols loads readable body powers. c .turned .ensures cols loads ∙ (ap told (c .before .enrol-category .ensures cols loads) ∙ category-line _ readable body _ powers)
+returns c = λ cols loads readable body powers. tells-done (c .turned .ensures) (c .before .enrol-category .ensures cols loads) ∙ category-line _ readable body _ powers
 
 pub enrol-category-spec : {M : Type 1} → statement M
 enrol-category-spec =

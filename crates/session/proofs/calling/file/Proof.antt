@@ -1,5 +1,5 @@
 use mathlib.Core.Path.{_≡_, ap, _∙_}
-use Rattle.turns.specs.Told.{told}
+use Rattle.turns.proofs.Telling.{tells-done}
 use Rattle.session.proofs.Spans.{file-line}
 use mathlib.Core.Bool.{true}
 use borrow.Author.Needs.{needs}
@@ -48,7 +48,7 @@ turned-requires c κs = search needs
 
 -- src/calling.rt:92:1
 returns : tie.Need-returns
-returns c = λ powers. c .turned .ensures _ _ ∙ (ap told (c .before .file .ensures) ∙ file-line _ true _ _ powers _)
+returns c = λ powers. tells-done (c .turned .ensures) (c .before .file .ensures) ∙ file-line _ true _ _ powers _
 
 pub file-spec : {M : Type 1} → statement M
 file-spec =

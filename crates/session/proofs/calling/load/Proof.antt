@@ -1,5 +1,5 @@
 use mathlib.Core.Path.{_≡_, ap, _∙_}
-use Rattle.turns.specs.Told.{told}
+use Rattle.turns.proofs.Telling.{tells-done}
 use Rattle.session.proofs.Spans.{counted, load-line}
 use borrow.Author.Needs.{needs}
 use Rattle.session.proofs.calling.load.Statement.{statement}
@@ -51,7 +51,7 @@ turned-requires c κs = search needs
 
 -- src/calling.rt:61:1
 returns : tie.Need-returns
-returns c = λ cols readable body. c .turned .ensures cols _ ∙ (ap told (c .before .load .ensures cols) ∙ load-line _ readable body _ _ _ _ _ _ _)
+returns c = λ cols readable body. tells-done (c .turned .ensures) (c .before .load .ensures cols) ∙ load-line _ readable body _ _ _ _ _ _ _
 
 pub load-spec : {M : Type 1} → statement M
 load-spec =

@@ -1,7 +1,6 @@
 use mathlib.Core.Path.{_≡_, ap, _∙_}
-use Rattle.turns.specs.Told.{told}
 use Rattle.session.proofs.Spans.{unknown-line}
-use Rattle.session.specs.Lines.{only}
+use Rattle.turns.specs.Told.{tells}
 use borrow.Author.Needs.{needs}
 use Rattle.session.proofs.calling.no_call.Statement.{statement}
 use Rattle.session.proofs.calling.no_call.Tie as tie
@@ -15,7 +14,7 @@ refused-requires c κs = search needs
 
 -- src/calling.rt:22:1
 returns : tie.Need-returns
-returns c = λ cols loads readable body line powers. ap (only _) (c .refused .ensures) ∙ unknown-line _ readable body line powers
+returns c = λ cols loads readable body line powers. ap (tells _) (c .refused .ensures) ∙ unknown-line _ readable body line powers
 
 pub no-call-spec : {M : Type 1} → statement M
 no-call-spec = tie.close (tie.spec refused-requires returns)

@@ -1,0 +1,2 @@
+-- What a call leaves and says, as a law.
+pub mod Telling
