@@ -21,7 +21,8 @@ use Rattle.tables.specs.Tables.{Columns, downFrom, keyIn, recordIn}
 use Rattle.judging.specs.Nets.{base, part, Netted}
 use Rattle.judging.specs.Steps.{netTests}
 use Rattle.judging.specs.declared.nets.Nets.{Nets}
-use Rattle.judging.proofs.Keys.{same-order, sameDay, any-1, any-2, any-3, any-4, kind-packed, key-packed, own-is, own-is-not, term-split}
+use Rattle.tables.proofs.Keys.{key-same}
+use Rattle.judging.proofs.Keys.{same-order, sameDay, any-1, any-2, any-3, any-4, kind-packed, own-is, own-is-not, term-split}
 
 -- ---- a sum over records by their places
 
@@ -91,7 +92,7 @@ module _ (x : Records) (cols : Columns) (n own s : ℕ) where
   unfolding power moved
   own-power is f =
       sum-ext n _ (λ i. cond (underKey (keyIn own) (recordIn x cols i)) (movedBy s (recordIn x cols i)) 0)
-      (λ i. ap (λ b. cond b (movedBy s (recordIn x cols i)) 0) (own-is (key i) own (is (key i)) (f (key i)) ∙ sym (key-packed (key i) own)))
+      (λ i. ap (λ b. cond b (movedBy s (recordIn x cols i)) 0) (own-is (key i) own (is (key i)) (f (key i)) ∙ sym (key-same (key i) own)))
       ∙ sym (over-down (recordIn x cols) (λ r. cond (underKey (keyIn own) r) (movedBy s r) 0) n)
 
   own-nothing : (is : ℕ → Bool) → ((m : ℕ) → m ≡ own → is m ≡ true → ⊥) →

@@ -1,9 +1,9 @@
 -- A net turned by one record, and while the records are passed: none, one that concerns the filing, one that doesn't, and all
 -- up to the next of the filing's category and day.
 use mathlib.Core.Path.{_≡_, refl, ap}
-use mathlib.Core.Bool.{Bool, true, false, cond, _&&_, Bool·beq, false≢true, true≢false}
+use mathlib.Core.Bool.{Bool, true, false, cond, not, _&&_, Bool·beq, false≢true, true≢false}
 use mathlib.Core.List.{List, []}
-use Prim.Native.Nat.{ℕ, _+_, _*_, _/_, _%_, _≤_, _<_}
+use Prim.Native.Nat.{ℕ, _+_, _/_, _%_, _≤_, _<_}
 use native.Mathlib.Numerals.{add-one}
 use native.Mathlib.Omega.{arith}
 use lib.Dec.{eqb, leb, ltb}
@@ -11,11 +11,12 @@ use lib.ListN.{length, getD, replicate, getD-replicate}
 use Rattle.lists.specs.Sums.{sumTo}
 use borrow.Author.Tests.{eqb-true, eq-eqb, le-leb, lt-ltb, le-ltb}
 use Rattle.lists.proofs.Tests.{by-test, true-false}
-use Rattle.tables.specs.Tables.{Columns, loadRow, inMarket, isUnder, Listed}
+use Rattle.tables.specs.Tables.{Columns}
+use Rattle.tables.specs.Passing.{loadRow, inMarket, isUnder, Listed}
 use Rattle.tables.specs.declared.loads.Found.{Found}
 use Rattle.tables.specs.declared.loads.Found.the-variants.{At, Nothing}
 use Rattle.tables.proofs.Listing.{through, listed-skip}
-use Rattle.judging.specs.Nets.{base, Between, Based, Added, Turned, spanned, concerns, gifts, gains, Netting}
+use Rattle.judging.specs.Nets.{base, Between, Based, Moved, Turned, spanned, concerns, gifts, gains, Netting}
 
 and-false : (a b : Bool) → b ≡ false → (a && b) ≡ false
 and-false true b e = e
@@ -28,21 +29,25 @@ alike true false e = absurd (false≢true e)
 alike false true e = absurd (false≢true e)
 alike false false e = refl
 
-pub differs-true : (a b : Bool) → Bool·beq a b ≡ false → a ≡ true → b ≡ false
-differs-true true true e h = absurd (true≢false e)
-differs-true true false e h = refl
-differs-true false b e h = absurd (false≢true h)
-
-pub differs-false : (a b : Bool) → Bool·beq a b ≡ false → a ≡ false → b ≡ true
-differs-false true b e h = absurd (true≢false h)
-differs-false false true e h = refl
-differs-false false false e h = absurd (true≢false e)
+pub differs : (a b : Bool) → Bool·beq a b ≡ false → b ≡ not a
+differs true true e = absurd (true≢false e)
+differs true false e = refl
+differs false true e = refl
+differs false false e = absurd (true≢false e)
 
 -- ---- one record
 
 nothing : (b : Bool) → _≡_ {A = ℕ} (cond b 0 0) 0
 nothing true = refl
 nothing false = refl
+
+turned-over : (b : Bool) (p : ℕ) → cond (not b) p 0 ≡ cond b 0 p
+turned-over true p = refl
+turned-over false p = refl
+
+one-of : (b : Bool) (p : ℕ) → cond b p 0 + cond b 0 p ≡ p
+one-of true p = omega arith
+one-of false p = omega arith
 
 module _ (net : List ℕ) (gains gives : Bool) (mark row : List ℕ) (first until : ℕ) where
   -- a record that moves nothing at the counted steps
@@ -72,22 +77,13 @@ module _ (net : List ℕ) (gains gives : Bool) (mark row : List ℕ) (first unti
     whole : (s : ℕ) → first ≤ s → s < until → spanned mark row s ≡ getD row s 0
     whole s h l = rw (le-leb (getD mark 1 0) s (omega arith), lt-ltb s (getD mark 2 0) (omega arith))
 
-    pub turned-gained : (r : List ℕ) → until ≤ 50 → gains ≡ true → gives ≡ false → Added net row r → Turned net gains gives mark row first until r
-    turned-gained r few e f a =
+    pub turned-whole : (r : List ℕ) → until ≤ 50 → gives ≡ not gains → Moved net gains row r → Turned net gains gives mark row first until r
+    turned-whole r few e m =
         record {
-          fifty = a .fifty;
-          each = λ s h l. rw (e, f, whole s h l) (omega (arith, a .each s (omega arith)));
-          low = λ s h. omega (arith, a .each s h);
-          high = λ s h. omega (arith, a .each s h, a .small s h);
-        }
-
-    pub turned-given : (r : List ℕ) → until ≤ 50 → gains ≡ false → gives ≡ true → Added r row net → Turned net gains gives mark row first until r
-    turned-given r few e f a =
-        record {
-          fifty = a .was;
-          each = λ s h l. rw (e, f, whole s h l) (omega (arith, a .each s (omega arith)));
-          low = λ s h. omega (arith, a .each s h, a .small s h);
-          high = λ s h. omega (arith, a .each s h);
+          fifty = m .fifty;
+          each = λ s h l. rw (e, whole s h l, turned-over gains (getD row s 0)) (m .each s (omega arith));
+          low = λ s h. omega (arith, m .each s h, m .small s h, one-of gains (getD row s 0));
+          high = λ s h. omega (arith, m .each s h, m .small s h, one-of gains (getD row s 0));
         }
 
 -- ---- the records, one by one

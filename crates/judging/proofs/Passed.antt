@@ -1,13 +1,12 @@
 -- One record passed: one under the filing's own key, one that moves nothing for ceder and acquirer, one that turns their nets.
-use mathlib.Core.Path.{_≡_, refl, sym, ap, _∙_}
+use mathlib.Core.Path.{_≡_, refl}
 use mathlib.Core.Bool.{Bool, true, false, not, _&&_}
 use mathlib.Core.List.{List, []}
-use Prim.Native.Nat.{ℕ, _+_, _/_, _%_, _<_, _≤_}
-use native.Mathlib.Omega.{arith}
+use Prim.Native.Nat.{ℕ, _+_, _/_, _%_, _<_}
 use lib.Dec.{eqb}
 use lib.ListN.{length, getD, set, length-set}
-use Rattle.lists.proofs.Tests.{by-test}
-use Rattle.tables.specs.Tables.{Columns, inMarket, isUnder, Listed}
+use Rattle.tables.specs.Tables.{Columns}
+use Rattle.tables.specs.Passing.{inMarket, isUnder}
 use Rattle.tables.proofs.Listing.{listed-skip, listed-push}
 use Rattle.judging.specs.Nets.{Turned, movesFor, concerns, Passing, PassedOne}
 use Rattle.judging.proofs.Netting.{netting-same, netting-more}

@@ -1,16 +1,16 @@
 -- The verdict of the checks 32 to 35, by the steps that the searches find.
 use mathlib.Core.Path.{_≡_, refl, sym, _∙_, ap, ap₂}
-use mathlib.Core.Bool.{Bool, true, false, _&&_}
+use mathlib.Core.Bool.{Bool, true, false, not, _&&_, _||_}
 use mathlib.Core.List.{List}
 use Prim.Native.Nat.{ℕ, _+_, _-_, _≤_, _<_}
 use native.Mathlib.Omega.{arith}
 use native.Mathlib.Decide.{ℕ-discrete}
 use lib.Dec.{leb, ltb}
 use lib.ListN.{getD}
-use borrow.Author.Tests.{lt-ltb, le-ltb, leb-true}
+use borrow.Author.Tests.{lt-ltb, le-ltb, leb-true, not-false}
 use Rattle.lists.specs.Searches.{firstFrom}
 use Rattle.lists.proofs.Searches.{first-agree, first-none}
-use Rattle.lists.proofs.Tests.{and-left, and-right}
+use Rattle.lists.proofs.Tests.{and-left, and-right, or-left, or-right}
 use Rattle.refusals.specs.Tests.{firstMet}
 use Rattle.refusals.specs.declared.StateRefusal.the-variants.{CederBelow, AcquirerAbove, CederAbove, AcquirerBelow}
 use Rattle.refusals.specs.declared.Refusal.the-variants.{State}
@@ -68,30 +68,30 @@ module _ (nets : Nets) (ps : List ℕ) (ceders acquirers first until : ℕ) wher
 -- ---- where every step fits, no check fails
 
 -- one step more that fits, while the steps passed all fit
-pub fit-more : (p : ℕ → Bool) (first s : ℕ) (x good : Bool) → x ≡ p s → (good ≡ true → (j : ℕ) → first ≤ j → j < s → p j ≡ true) →
-    (x && good) ≡ true → (j : ℕ) → first ≤ j → j < s + 1 → p j ≡ true
-fit-more p first s x good e f t j h l = go (ℕ-discrete j s)
+pub fit-more : (p : ℕ → Bool) (first s : ℕ) (x failed : Bool) → x ≡ p s → (failed ≡ false → (j : ℕ) → first ≤ j → j < s → p j ≡ true) →
+    (failed || not x) ≡ false → (j : ℕ) → first ≤ j → j < s + 1 → p j ≡ true
+fit-more p first s x failed e f t j h l = go (ℕ-discrete j s)
   where
     go : Dec (j ≡ s) → p j ≡ true
-    go (yes q) = ap p q ∙ (sym e ∙ and-left x good t)
-    go (no ne) = f (and-right x good t) j h (omega arith)
+    go (yes q) = ap p q ∙ (sym e ∙ not-false x (or-right failed (not x) t))
+    go (no ne) = f (or-left failed (not x) t) j h (omega arith)
 
 -- the four checks of a step that fits
 module _ (c a p ceders acquirers : ℕ) (e : stepFits c a p ceders acquirers ≡ true) where
   abbrev low : Bool
-  low = leb (base + p) c && leb c (base + ceders + p)
+  low = leb (base + p) c && leb c (base + p + ceders)
 
   abbrev high : Bool
   high = leb base (a + p) && leb (a + p) (base + acquirers)
 
   fits-32 : ltb c (base + p) ≡ false
-  fits-32 = le-ltb c (base + p) (leb-true (base + p) c (and-left (leb (base + p) c) (leb c (base + ceders + p)) (and-left low high e)))
+  fits-32 = le-ltb c (base + p) (leb-true (base + p) c (and-left (leb (base + p) c) (leb c (base + p + ceders)) (and-left low high e)))
 
   fits-33 : ltb (base + acquirers) (a + p) ≡ false
   fits-33 = le-ltb (base + acquirers) (a + p) (leb-true (a + p) (base + acquirers) (and-right (leb base (a + p)) (leb (a + p) (base + acquirers)) (and-right low high e)))
 
   fits-34 : ltb (base + ceders + p) c ≡ false
-  fits-34 = le-ltb (base + ceders + p) c (leb-true c (base + ceders + p) (and-right (leb (base + p) c) (leb c (base + ceders + p)) (and-left low high e)))
+  fits-34 = le-ltb (base + ceders + p) c (omega (arith, leb-true c (base + p + ceders) (and-right (leb (base + p) c) (leb c (base + p + ceders)) (and-left low high e))))
 
   fits-35 : ltb (a + p) base ≡ false
   fits-35 = le-ltb (a + p) base (leb-true base (a + p) (and-left (leb base (a + p)) (leb (a + p) (base + acquirers)) (and-right low high e)))

@@ -1,13 +1,14 @@
 -- What the register's own sums mean, step by step.
 use mathlib.Core.Path.{_≡_}
-use mathlib.Core.Bool.{Bool, true, false, cond, not, _&&_, _||_}
+use mathlib.Core.Bool.{Bool, cond, not, _&&_, _||_}
 use mathlib.Core.List.{List, []}
 use Prim.Native.Nat.{ℕ, _+_, _*_, _/_, _%_, _≤_, _<_}
 use lib.Dec.{eqb, leb, ltb}
 use lib.ListN.{length, getD}
 use Rattle.lists.specs.Sums.{sumTo}
 use Rattle.ledger.specs.Statuses.{validated, updated}
-use Rattle.tables.specs.Tables.{Columns, isUnder, Listed}
+use Rattle.tables.specs.Tables.{Columns}
+use Rattle.tables.specs.Passing.{isUnder, Listed}
 use Rattle.judging.specs.declared.nets.Nets.{Nets}
 
 -- what nets are counted from
@@ -41,11 +42,10 @@ pub record Turned (net : List ℕ) (gains gives : Bool) (mark row : List ℕ) (f
   pub low : (s : ℕ) → s < 50 → getD net s 0 ≤ getD r s 0 + 65535
   pub high : (s : ℕ) → s < 50 → getD r s 0 ≤ getD net s 0 + 65535
 
--- a whole row added to a net
-pub record Added (net row r : List ℕ) : Type 0 where
-  pub was : length net ≡ 50
+-- a net with a whole row gained or given
+pub record Moved (net : List ℕ) (gains : Bool) (row r : List ℕ) : Type 0 where
   pub fifty : length r ≡ 50
-  pub each : (s : ℕ) → s < 50 → getD r s 0 ≡ getD net s 0 + getD row s 0
+  pub each : (s : ℕ) → s < 50 → getD r s 0 + cond gains 0 (getD row s 0) ≡ getD net s 0 + cond gains (getD row s 0) 0
   pub small : (s : ℕ) → s < 50 → getD row s 0 ≤ 65535
 
 -- a record that moves power, with one of two actors as a party

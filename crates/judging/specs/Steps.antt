@@ -17,7 +17,7 @@ belowAt left right s = ltb (getD left s 0) (getD right s 0)
 -- a step passes 32 to 35, by the nets there, the filed power and the approved powers
 abbrev pub stepFits : ℕ → ℕ → ℕ → ℕ → ℕ → Bool
 stepFits ceder acquirer p cedersMost acquirersMost =
-    leb (base + p) ceder && leb ceder (base + cedersMost + p)
+    leb (base + p) ceder && leb ceder (base + p + cedersMost)
     && (leb base (acquirer + p) && leb (acquirer + p) (base + acquirersMost))
 
 -- 32 to 35 by the nets: ceder, acquirer without the key's own power, and the filed power

@@ -3,11 +3,11 @@
 ghost use mathlib.Core.Path.{_≡_};
 ghost use mathlib.Core.Bool.{cond, _&&_};
 ghost use mathlib.Core.List.{[]};
-ghost use Prim.Native.Nat.{_<_, _≤_};
+ghost use Prim.Native.Nat.{_+_, _<_, _≤_};
 ghost use lib.ListN.{length, getD, replicate};
 ghost use lib.Dec.{leb, ltb};
-ghost use Rattle.tables.specs.Tables.{loadRow};
-ghost use Rattle.judging.specs.Nets.{base, Between, Added, Turned, Based};
+ghost use Rattle.tables.specs.Passing.{loadRow};
+ghost use Rattle.judging.specs.Nets.{base, Between, Moved, Turned, Based};
 use tables::loads::Found;
 use tables::loads::LOADS;
 use tables::records::byte;
@@ -63,26 +63,22 @@ pub fn start_net(net: &mut [u32; 50], rows: &[[u16; 50]; 64], at: Found)
     }
 }
 
-// Adds a record's whole row to a net.
-fn gain(net: &mut [u32; 50], rows: &[[u16; 50]; 256], i: u32)
-    requires { ⌜ (i < 256) × Between (now net) 65535 4294901760 ⌝ }
-    ensures { λ r. ⌜ Added (now (net .entry)) (getD (now (rows .entry)) i []) (now (net .exit)) ⌝ }
+// A number with a power gained, or given.
+fn moved(x: u32, gains: bool, p: u32) -> u32
+    requires { ⌜ (p ≤ 65535) × (65535 ≤ x) × (x ≤ 4294901760) ⌝ }
+    ensures { λ r. ⌜ r + cond gains 0 p ≡ x + cond gains p 0 ⌝ }
 {
-    let mut s: usize = 0;
-    while s < 50 {
-        net[s] = net[s] + wide(rows[i as usize][s]);
-        s += 1;
-    }
+    if gains { x + p } else { x - p }
 }
 
-// Takes a record's whole row from a net.
-fn give(net: &mut [u32; 50], rows: &[[u16; 50]; 256], i: u32)
+// A net with a record's whole row gained, or given.
+fn move_row(net: &mut [u32; 50], gains: bool, rows: &[[u16; 50]; 256], i: u32)
     requires { ⌜ (i < 256) × Between (now net) 65535 4294901760 ⌝ }
-    ensures { λ r. ⌜ Added (now (net .exit)) (getD (now (rows .entry)) i []) (now (net .entry)) ⌝ }
+    ensures { λ r. ⌜ Moved (now (net .entry)) gains (getD (now (rows .entry)) i []) (now (net .exit)) ⌝ }
 {
     let mut s: usize = 0;
     while s < 50 {
-        net[s] = net[s] - wide(rows[i as usize][s]);
+        net[s] = moved(net[s], gains, wide(rows[i as usize][s]));
         s += 1;
     }
 }
@@ -113,7 +109,7 @@ fn turn_in_span(
 }
 
 // Turns a net by a record that gains it power, or gives its power away. A record in force at all counted steps has its whole
-// row added or taken; one that ends before them moves nothing there, and neither does one that both gains and gives.
+// row gained or given; one that ends before them moves nothing there, and neither does one that both gains and gives.
 pub fn turn(
     net: &mut [u32; 50],
     gains: bool,
@@ -136,11 +132,7 @@ pub fn turn(
         return;
     }
     if (from <= first) & (until <= till) {
-        if gains {
-            gain(net, rows, i);
-            return;
-        }
-        give(net, rows, i);
+        move_row(net, gains, rows, i);
         return;
     }
     turn_in_span(net, gains, gives, mark, rows, i, first, until)

@@ -4,7 +4,7 @@ ghost use mathlib.Core.Path.{_≡_};
 ghost use mathlib.Core.Bool.{true};
 ghost use Prim.Native.Nat.{_<_, _≤_, _+_, _/_};
 ghost use lib.ListN.{length};
-ghost use Rattle.tables.specs.Tables.{inMarket, isUnder, Listed};
+ghost use Rattle.tables.specs.Passing.{inMarket, isUnder, Listed};
 ghost use Rattle.judging.specs.Nets.{base, Between, movesFor, PassedOne, Netted};
 use crate::nets::turn;
 use tables::markets::next_of;

@@ -1,7 +1,8 @@
 // The checks 32 to 35 of a filing at its counted steps, by what ceder and acquirer have.
 ghost use mathlib.Core.Path.{_≡_};
-ghost use mathlib.Core.Bool.{true};
+ghost use mathlib.Core.Bool.{true, _&&_};
 ghost use Prim.Native.Nat.{ℕ, _<_, _≤_, _+_, _-_};
+ghost use lib.Dec.{leb};
 ghost use lib.ListN.{getD};
 ghost use Rattle.lists.specs.Searches.{firstFrom};
 ghost use Rattle.refusals.specs.Tests.{firstMet};
@@ -12,6 +13,7 @@ use crate::nets::Nets;
 use refusals::Refusal;
 use refusals::StateRefusal;
 use refusals::Verdict;
+use std::num::wrapping_sub_u32;
 use tables::records::wide;
 
 // A refusal that comes from the state, with its place.
@@ -101,13 +103,20 @@ fn failing_verdict(
     Verdict::Pass
 }
 
+// Whether a number is one of the `more + 1` numbers from `least` on, by one comparison: below `least` the difference wraps.
+fn is_from(x: u32, least: u32, more: u32) -> bool
+    requires { ⌜ (least ≤ 4294901760) × (more ≤ 65535) ⌝ }
+    ensures { λ r. ⌜ r ≡ (leb least x && leb x (least + more)) ⌝ }
+{
+    wrapping_sub_u32(x, least) <= more
+}
+
 // Whether a step passes 32 to 35: with the filed power moved, ceder and acquirer have from 0 to their approved power.
 fn fits(ceder: u32, acquirer: u32, p: u32, ceders: u32, acquirers: u32) -> bool
     requires { ⌜ (p ≤ 65535) × (ceders ≤ 65535) × (acquirers ≤ 65535) × (acquirer ≤ most) ⌝ }
     ensures { λ r. ⌜ r ≡ stepFits ceder acquirer p ceders acquirers ⌝ }
 {
-    ((BASE + p <= ceder) & (ceder <= BASE + ceders + p))
-        & ((BASE <= acquirer + p) & (acquirer + p <= BASE + acquirers))
+    is_from(ceder, BASE + p, ceders) & is_from(acquirer + p, BASE, acquirers)
 }
 
 // Whether all counted steps pass 32 to 35. Each step is looked at, so that many are tested at once.
@@ -123,14 +132,14 @@ fn all_fit(
     requires { ⌜ (until ≤ 50) × (ceders ≤ 65535) × (acquirers ≤ 65535) × ((s : ℕ) → s < 50 → getD (now acquirer) s 0 ≤ most) ⌝ }
     ensures { λ r. ⌜ (r ≡ true → (s : ℕ) → first ≤ s → s < until → stepFits (getD (now (ceder .entry)) s 0) (getD (now (acquirer .entry)) s 0) (getD (now (ps .entry)) s 0) ceders acquirers ≡ true) ⌝ }
 {
-    let mut good = true;
+    let mut failed = false;
     let mut s = first;
     while s < until {
         let at = s as usize;
-        good = fits(ceder[at], acquirer[at], wide(ps[at]), ceders, acquirers) & good;
+        failed = failed | !fits(ceder[at], acquirer[at], wide(ps[at]), ceders, acquirers);
         s += 1;
     }
-    good
+    !failed
 }
 
 // 32 to 35, by the nets of ceder and acquirer. The failing step is looked for only where there is one.

@@ -3,12 +3,16 @@ use mathlib.Core.Path.{_≡_, refl, ap}
 use mathlib.Core.List.{List, _∷_, _++_}
 use Prim.Native.Nat.{ℕ, zero, suc, _+_, _-_, _≤_}
 use native.Mathlib.Omega.{arith}
-use lib.ListN.{length, take, drop, replicate}
-use lib.Seq.{take-append-add, drop-append-add}
+use lib.ListN.{length, take, drop, replicate, length-drop}
+use lib.Seq.{take-all, take-append-add, drop-append-add}
 
 -- what follows a part and the entry that ends it
 pub drop-past : {A : Type 0} (s : List A) (x : A) (t : List A) (n : ℕ) → n ≡ length s + 1 → drop n (s ++ x ∷ t) ≡ t
 drop-past s x t n e = rw (e, drop-append-add s (x ∷ t) 1)
+
+-- a part that goes to the end of a list is all of its rest
+pub rest-all : {A : Type 0} (n : ℕ) (s : List A) → take (length s - n) (drop n s) ≡ drop n s
+rest-all n s = take-all (length s - n) (drop n s) (rw length-drop (omega arith))
 
 module _ {A : Type 0} (z : A) where
   pub take-replicate : (m n : ℕ) → m ≤ n → take m (replicate n z) ≡ replicate m z

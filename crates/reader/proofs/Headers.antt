@@ -19,7 +19,7 @@ use Rattle.notification.specs.Writing.{keyText, headerOf, formed}
 use Rattle.reader.specs.Parts.{headed}
 use Rattle.notification.specs.declared.Key.{Key}
 use Rattle.notification.proofs.Lengths.{date-length, formed-parts, key-length}
-use Rattle.reader.proofs.KeyParts.{rest-all}
+use Rattle.lists.proofs.Parts.{rest-all}
 
 -- ---- two texts of the same length, byte by byte
 

@@ -22,10 +22,6 @@ use Rattle.notification.specs.Reading.{dayNumber, keyIn, validKey}
 use Rattle.reader.specs.Parts.{noKey, found, isKey, keyRead}
 use Rattle.notification.proofs.Lengths.{date-length, formed-parts, key-length}
 
--- the rest of a text, taken whole
-pub rest-all : (n : ℕ) (s : List ℕ) → take (length s - n) (drop n s) ≡ drop n s
-rest-all n s = take-all (length s - n) (drop n s) (rw length-drop (omega arith))
-
 -- ---- a category and its six bytes
 
 pub category-six : (c : List ℕ) → isCategory c ≡ true → categoryText (sixBytes c) ≡ c

@@ -15,12 +15,13 @@ use Rattle.calendar.specs.declared.clock.Clock.{Clock}
 use Rattle.ledger.specs.Statuses.{created, answered, deleted, validated, updated, obsolete}
 use Rattle.ledger.specs.Ledger.{Key, Rec, underKey}
 use Rattle.ledger.specs.Filing.{withStatus, ruleOne, ruleTwo, ruleThree, deletes, answers, replaces, obsoletes, samePowers, changed}
-use Rattle.tables.specs.Tables.{Columns, keyIn, isUnder, reached, Listed}
+use Rattle.tables.specs.Tables.{Columns, keyIn}
+use Rattle.tables.specs.Passing.{isUnder, reached, Listed}
 use Rattle.tables.proofs.Listing.{listed-next, reached-more}
 use Rattle.lists.proofs.Tests.{and-true, and-right}
 use Rattle.recording.specs.Recording.{recOf, recAt, pairsBelow, madeOf, ChangedAt, Changed}
 use Rattle.tables.specs.More.{putTo, withUntil}
-use Rattle.recording.proofs.Keys.{key-same}
+use Rattle.tables.proofs.Keys.{key-same}
 use Rattle.recording.proofs.Puts.{put-length, put-past, put-more, put-same}
 
 -- ---- tests in a row

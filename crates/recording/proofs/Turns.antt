@@ -12,7 +12,8 @@ use lib.Seq.{drop-cons, set-at}
 use Rattle.lists.specs.Tests.{allBelow}
 use Rattle.lists.specs.Sums.{sumTo}
 use Rattle.ledger.specs.Ledger.{movedBy}
-use Rattle.tables.specs.Tables.{Columns, inMarket}
+use Rattle.tables.specs.Tables.{Columns}
+use Rattle.tables.specs.Passing.{inMarket}
 use Rattle.tables.proofs.Listing.{through}
 use Rattle.recording.specs.Recording.{recAt, gainedAt, givenAt, partyIn, idsBelow}
 

@@ -14,7 +14,8 @@ use Rattle.calendar.specs.declared.clock.Clock.{Clock}
 use Rattle.ledger.specs.Ledger.{moved, movedBy, acquired, ceded}
 use Rattle.ledger.specs.Filing.{answers, pairs, changed}
 use Rattle.ledger.specs.Asking.{noRecord, recordAt, idsOf}
-use Rattle.tables.specs.Tables.{Columns, keyIn, downFrom, lastBelow, recordIn}
+use Rattle.tables.specs.Tables.{Columns, keyIn, downFrom, recordIn}
+use Rattle.tables.specs.Passing.{lastBelow}
 use Rattle.tables.specs.declared.loads.Found.the-variants.{At, Nothing}
 use Rattle.tables.specs.declared.records.Records.{Records}
 use Rattle.recording.specs.Recording.{recAt, pairsBelow, Changed, gainedAt, givenAt, partyIn, idsBelow}

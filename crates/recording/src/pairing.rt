@@ -2,7 +2,8 @@
 ghost use mathlib.Core.Path.{_≡_};
 ghost use Prim.Native.Nat.{ℕ, _<_, _≤_};
 ghost use Rattle.ledger.specs.Filing.{samePowers, answers};
-ghost use Rattle.tables.specs.Tables.{keyIn, isUnder, Listed};
+ghost use Rattle.tables.specs.Tables.{keyIn};
+ghost use Rattle.tables.specs.Passing.{isUnder, Listed};
 ghost use Rattle.recording.specs.Recording.{recOf, pairsBelow};
 use tables::records::CREATED;
 use tables::records::byte;

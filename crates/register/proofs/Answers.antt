@@ -23,7 +23,8 @@ use Rattle.ledger.specs.Asking.{askEngagement, engagementTests, engagedAt, askH
 use Rattle.ledger.specs.declared.Engaged.the-variants as Asked
 use Rattle.ledger.specs.declared.Listed.the-variants as Ids
 use Rattle.ledger.specs.declared.Shown.{Shown}
-use Rattle.tables.specs.Tables.{Columns, actorsIn, categoriesIn, loadNumber, loadsIn, lastLoad, loadRow, lastBelow, recordIn, recordsIn}
+use Rattle.tables.specs.Tables.{Columns, actorsIn, categoriesIn, loadNumber, loadsIn, recordIn, recordsIn}
+use Rattle.tables.specs.Passing.{lastLoad, loadRow, lastBelow}
 use Rattle.tables.specs.declared.categories.Category.{Category}
 use Rattle.tables.specs.declared.loads.Found.{Found}
 use Rattle.tables.specs.declared.loads.Found.the-variants.{At, Nothing}

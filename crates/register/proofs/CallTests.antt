@@ -21,7 +21,8 @@ use Rattle.lists.proofs.Tests.{and-left}
 use Rattle.notification.proofs.Tested.{every-more}
 use Rattle.ledger.specs.Ledger.{actorAt, categoryAt, hasLoad}
 use Rattle.ledger.specs.Calls.{actorTests, categoryTests, advanceTests, loadRanged, loadable, loadTests}
-use Rattle.tables.specs.Tables.{Columns, actorsIn, categoriesIn, loadsIn, loadNumber, lastLoad}
+use Rattle.tables.specs.Tables.{Columns, actorsIn, categoriesIn, loadsIn, loadNumber}
+use Rattle.tables.specs.Passing.{lastLoad}
 use Rattle.tables.specs.declared.actors.Actors.{Actors}
 use Rattle.tables.specs.declared.categories.Categories.{Categories}
 use Rattle.tables.specs.declared.loads.Loads.{Loads}

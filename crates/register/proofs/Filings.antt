@@ -5,7 +5,7 @@ use mathlib.Core.List.{List, [], _∷_, _++_}
 use Prim.Native.Nat.{ℕ, _≤_, _<_, min}
 use native.Mathlib.Omega.{arith}
 use lib.Dec.{ltb}
-use lib.ListN.{length, take, drop, length-map, length-take}
+use lib.ListN.{length, length-map, length-take}
 use borrow.Author.Tests.{ltb-true, eqb-false, not-false}
 use Rattle.calendar.specs.Steps.{stepsOf}
 use Rattle.calendar.specs.Clocks.{firstCounted}
@@ -26,44 +26,51 @@ use Rattle.tables.proofs.Down.{down-length}
 use Rattle.register.specs.declared.Head.{Head}
 use Rattle.register.specs.declared.verdicts.Places.{Places}
 use Rattle.register.specs.View.{view}
-use Rattle.register.specs.Judging.{keyAt, partyTests, stepTests, placeTests, Judgeable, Fileable}
+use Rattle.register.specs.Judging.{keyAt, partyTests, dayTests, loadTest, stepTests, placeTests, Judgeable, Fileable}
 
 -- ---- the ledger's tests are those by places
 
 pub filing-places : (l : Ledger) (submitter : List ℕ) (n : Notification) →
     filingTests l submitter n ≡ placeTests l (keyOf l n) (actorAt (l .actors) submitter) (n .powers)
-unfolding filingTests placeTests partyTests stepTests
+unfolding filingTests placeTests partyTests dayTests loadTest stepTests
 filing-places l submitter n = refl
 
--- ---- in parts: 20 to 25, 26 to 31, 32 to 35, 36
+-- ---- in parts: 20 to 25, 26 to 30, 31 to 35, 36
 
 abbrev pub fullTest : Ledger → Test
 fullTest l = (not (ltb (length (l .records)) recordPlaces), state Full)
 
 module _ (l : Ledger) (k : Key) (by : ℕ) (ps : List ℕ) where
-  in-parts : placeTests l k by ps ≡ take 6 (partyTests l k by) ++ (drop 6 (partyTests l k by) ++ (stepTests l k ps ++ (fullTest l ∷ [])))
-  unfolding placeTests partyTests
+  -- from 36, 31 and 26 on
+  abbrev last : List Test
+  last = fullTest l ∷ []
+
+  abbrev sums : List Test
+  sums = loadTest l k ∷ stepTests l k ps
+
+  in-parts : placeTests l k by ps ≡ partyTests l k by ++ (dayTests l k ++ (sums ++ last))
+  unfolding placeTests
   in-parts = refl
 
-  pub refused-20 : (r : Refusal) → firstMet (take 6 (partyTests l k by)) ≡ No r → firstMet (placeTests l k by ps) ≡ No r
-  refused-20 r e = ap firstMet in-parts ∙ refuse-append r (take 6 (partyTests l k by)) (drop 6 (partyTests l k by) ++ (stepTests l k ps ++ (fullTest l ∷ []))) e
+  pub refused-20 : (r : Refusal) → firstMet (partyTests l k by) ≡ No r → firstMet (placeTests l k by ps) ≡ No r
+  refused-20 r e = ap firstMet in-parts ∙ refuse-append r (partyTests l k by) (dayTests l k ++ (sums ++ last)) e
 
-  module _ (parties : firstMet (take 6 (partyTests l k by)) ≡ Pass) where
-    from-26 : firstMet (placeTests l k by ps) ≡ firstMet (drop 6 (partyTests l k by) ++ (stepTests l k ps ++ (fullTest l ∷ [])))
-    from-26 = ap firstMet in-parts ∙ pass-append (take 6 (partyTests l k by)) (drop 6 (partyTests l k by) ++ (stepTests l k ps ++ (fullTest l ∷ []))) parties
+  module _ (parties : firstMet (partyTests l k by) ≡ Pass) where
+    from-26 : firstMet (placeTests l k by ps) ≡ firstMet (dayTests l k ++ (sums ++ last))
+    from-26 = ap firstMet in-parts ∙ pass-append (partyTests l k by) (dayTests l k ++ (sums ++ last)) parties
 
-    pub refused-26 : (r : Refusal) → firstMet (drop 6 (partyTests l k by)) ≡ No r → firstMet (placeTests l k by ps) ≡ No r
-    refused-26 r e = from-26 ∙ refuse-append r (drop 6 (partyTests l k by)) (stepTests l k ps ++ (fullTest l ∷ [])) e
+    pub refused-26 : (r : Refusal) → firstMet (dayTests l k) ≡ No r → firstMet (placeTests l k by ps) ≡ No r
+    refused-26 r e = from-26 ∙ refuse-append r (dayTests l k) (sums ++ last) e
 
-    module _ (days : firstMet (drop 6 (partyTests l k by)) ≡ Pass) where
-      from-32 : firstMet (placeTests l k by ps) ≡ firstMet (stepTests l k ps ++ (fullTest l ∷ []))
-      from-32 = from-26 ∙ pass-append (drop 6 (partyTests l k by)) (stepTests l k ps ++ (fullTest l ∷ [])) days
+    module _ (days : firstMet (dayTests l k) ≡ Pass) where
+      from-31 : firstMet (placeTests l k by ps) ≡ firstMet (sums ++ last)
+      from-31 = from-26 ∙ pass-append (dayTests l k) (sums ++ last) days
 
-      pub refused-32 : (r : Refusal) → firstMet (stepTests l k ps) ≡ No r → firstMet (placeTests l k by ps) ≡ No r
-      refused-32 r e = from-32 ∙ refuse-append r (stepTests l k ps) (fullTest l ∷ []) e
+      pub refused-31 : (r : Refusal) → firstMet sums ≡ No r → firstMet (placeTests l k by ps) ≡ No r
+      refused-31 r e = from-31 ∙ refuse-append r sums last e
 
-      pub from-36 : firstMet (stepTests l k ps) ≡ Pass → firstMet (placeTests l k by ps) ≡ firstMet (fullTest l ∷ [])
-      from-36 e = from-32 ∙ pass-append (stepTests l k ps) (fullTest l ∷ []) e
+      pub from-36 : firstMet sums ≡ Pass → firstMet (placeTests l k by ps) ≡ firstMet last
+      from-36 e = from-31 ∙ pass-append sums last e
 
 -- where one list after another passes, each passes
 pass-left : (ts us : List Test) → firstMet (ts ++ us) ≡ Pass → firstMet ts ≡ Pass
@@ -109,10 +116,10 @@ pub record Enrolled (h : Head) (at : Places) : Type 0 where
   pub apart : at .ceder ≡ at .acquirer → ⊥
 
 module _ (h : Head) (cols : Columns) (loads : List (List ℕ)) (at : Places) where
-  pub enrolled-of : firstMet (take 6 (partyTests (view h cols loads) (keyAt at) (at .submitter))) ≡ Pass → Enrolled h at
+  pub enrolled-of : firstMet (partyTests (view h cols loads) (keyAt at) (at .submitter)) ≡ Pass → Enrolled h at
   unfolding partyTests view
   enrolled-of e =
-      let f = pass-all (take 6 (partyTests (view h cols loads) (keyAt at) (at .submitter))) e in
+      let f = pass-all (partyTests (view h cols loads) (keyAt at) (at .submitter)) e in
       let z : at .category < length (categoriesIn (h .categories)) = passed-place _ _ (f .1 .1 .1 .0) in
       record {
         ceder = passed-place _ _ (f .0);
@@ -122,14 +129,14 @@ module _ (h : Head) (cols : Columns) (loads : List (List ℕ)) (at : Places) whe
         apart = eqb-false _ _ (f .1 .1 .1 .1 .1 .0);
       }
 
-  counted-of : firstMet (drop 6 (partyTests (view h cols loads) (keyAt at) (at .submitter))) ≡ Pass → firstCounted (h .clock) (at .day) < stepsOf (at .day)
-  unfolding partyTests view
+  counted-of : firstMet (dayTests (view h cols loads) (keyAt at)) ≡ Pass → firstCounted (h .clock) (at .day) < stepsOf (at .day)
+  unfolding dayTests view
   counted-of e =
-      let f = pass-all (drop 6 (partyTests (view h cols loads) (keyAt at) (at .submitter))) e in passed-place _ _ (f .1 .1 .0)
+      let f = pass-all (dayTests (view h cols loads) (keyAt at)) e in passed-place _ _ (f .1 .1 .0)
 
-  -- 20 to 31 leave the same of the head with any columns
-  pub judgeable-of : firstMet (take 6 (partyTests (view h cols loads) (keyAt at) (at .submitter))) ≡ Pass →
-      firstMet (drop 6 (partyTests (view h cols loads) (keyAt at) (at .submitter))) ≡ Pass →
+  -- 20 to 30 leave the same of the head with any columns
+  pub judgeable-of : firstMet (partyTests (view h cols loads) (keyAt at) (at .submitter)) ≡ Pass →
+      firstMet (dayTests (view h cols loads) (keyAt at)) ≡ Pass →
       (other : Columns) (rows : List (List ℕ)) → Judgeable (view h other rows) at
   unfolding view
   judgeable-of e d other rows =
@@ -159,11 +166,11 @@ module _ (h : Head) (cols : Columns) (loads : List (List ℕ)) (at : Places) whe
       let l = view h cols loads in
       let k = keyAt at in
       let e₁ = sym (ap firstMet (in-parts l k (at .submitter) ps)) ∙ e in
-      let p₁ = pass-left (take 6 (partyTests l k (at .submitter))) _ e₁ in
-      let e₂ = pass-right (take 6 (partyTests l k (at .submitter))) _ e₁ in
-      let p₂ = pass-left (drop 6 (partyTests l k (at .submitter))) _ e₂ in
-      let e₃ = pass-right (drop 6 (partyTests l k (at .submitter))) _ e₂ in
-      let e₄ = pass-right (stepTests l k ps) (fullTest l ∷ []) e₃ in
+      let p₁ = pass-left (partyTests l k (at .submitter)) _ e₁ in
+      let e₂ = pass-right (partyTests l k (at .submitter)) _ e₁ in
+      let p₂ = pass-left (dayTests l k) _ e₂ in
+      let e₃ = pass-right (dayTests l k) _ e₂ in
+      let e₄ = pass-right (loadTest l k ∷ stepTests l k ps) (fullTest l ∷ []) e₃ in
       record { judgeable = judgeable-of p₁ p₂ other rows; room = room-of (pass-first (fullTest l .0) (fullTest l .1) [] e₄) other rows }
 
 -- a refusal is no pass

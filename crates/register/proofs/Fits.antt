@@ -3,13 +3,7 @@ use mathlib.Core.Path.{_≡_, sym, ap, ap₂, _∙_}
 use mathlib.Core.List.{List, [], _∷_}
 use Prim.Native.Nat.{ℕ, _+_, _≤_, _<_, min}
 use native.Mathlib.Omega.{arith}
-use lib.Dec.{ltb}
 use lib.ListN.{getD}
-use mir.Syntax.{w16}
-use mir.Val.{Val}
-use denote.Laws.{Is}
-use borrow.Author.Needs.{elem-fits-field}
-use Rattle.lists.proofs.Tests.{by-test}
 use Rattle.calendar.specs.Steps.{stepsOf}
 use Rattle.calendar.specs.Clocks.{firstCounted}
 use Rattle.calendar.proofs.StepCounts.{steps-small}
@@ -17,21 +11,19 @@ use Rattle.refusals.specs.Tests.{firstMet}
 use Rattle.refusals.specs.declared.StateRefusal.the-variants.{CederBelow, AcquirerAbove, CederAbove, AcquirerBelow}
 use Rattle.ledger.specs.Ledger.{Key, Ledger, loaded, approved}
 use Rattle.ledger.specs.Filing.{failing, cederBelow, acquirerAbove, cederAbove, acquirerBelow}
-use Rattle.tables.specs.Tables.{Columns, downFrom, loadNumber, lastLoad, loadRow, loadMost, keyNumber, keyIn, recordIn, recordsIn}
-use Rattle.tables.specs.declared.loads.Loads.{Loads}
+use Rattle.tables.specs.Tables.{Columns, downFrom, loadNumber, keyNumber, keyIn, recordIn, recordsIn}
+use Rattle.tables.specs.Passing.{lastLoad, loadRow, loadMost}
 use Rattle.tables.specs.declared.loads.Found.{Found}
-use Rattle.tables.specs.declared.loads.Found.the-variants.{At, Nothing}
 use Rattle.tables.proofs.LoadTable.{approved-most, loaded-row}
 use Rattle.judging.specs.Nets.{base, Based, Netted}
 use Rattle.judging.specs.Steps.{netTests}
 use Rattle.judging.specs.declared.nets.Nets.{Nets}
-use Rattle.judging.proofs.Keys.{key-unpacked}
+use Rattle.tables.proofs.Keys.{key-unpacked}
 use Rattle.judging.proofs.Ledger.{held, verdicts-agree}
 use Rattle.register.specs.declared.Head.{Head}
 use Rattle.register.specs.declared.verdicts.Places.{Places}
 use Rattle.register.specs.View.{view}
 use Rattle.register.specs.Judging.{keyAt, stepTests, Judgeable}
-use Rattle.register.proofs.Head as head
 
 -- ---- what is judged has a counted step
 
@@ -42,19 +34,6 @@ pub counted-of : (h : Head) (cols : Columns) (loads : List (List ℕ)) (at : Pla
     firstCounted (h .clock) (at .day) < stepsOf (at .day)
 unfolding view
 counted-of h cols loads at j = j .counted
-
--- ---- an approved power has sixteen bits
-
-most-small : (x : Loads) → ((i : ℕ) → getD (x .approved) i 0 ≤ 65535) → (f : Found) → loadMost x f ≤ 65535
-unfolding loadMost
-most-small x each (At i) = by-test (ltb i 64) (λ t. rw t (each i)) (λ t. rw t (omega arith))
-most-small x each Nothing = omega arith
-
-pub head-most : (h : Head) (vs : List Val) → Is head.the-row h vs → (f : Found) → loadMost (h .loads) f ≤ 65535
-head-most h vs p f =
-    most-small (h .loads)
-    (λ i. omega (arith, elem-fits-field w16 w16 (h .loads .approved) _ i (p .1 .1 .1 .1 .1 .0 .1 .1 .1 .1 .0 .1 .1) tt))
-    f
 
 -- ---- the tests
 

@@ -1,6 +1,6 @@
 -- Who files, for whom, in which category: how many are enrolled, and the tests 20 to 25 by these numbers.
 use mathlib.Core.Path.{_≡_, refl, sym, _∙_}
-use mathlib.Core.Bool.{cond, not, _&&_, _||_}
+use mathlib.Core.Bool.{Bool, cond, not, _&&_, _||_}
 use mathlib.Core.List.{List, [], _∷_}
 use Prim.Native.Nat.{ℕ, zero, suc, _<_, min}
 use native.Mathlib.Omega.{arith}
@@ -63,21 +63,22 @@ abbrev pub blank : Actor
 blank = record { code = []; first = 0; last = 0 }
 
 -- the contract of the actor at a place is that of the entry there
-pub contract-at : (h : Head) (cols : Columns) (loads : List (List ℕ)) (i d : ℕ) → i < length (actorsIn (h .actors)) → length (h .actors .entries) ≡ 8 →
-    (leb (getD (h .actors .entries) i blank .first) d && leb d (getD (h .actors .entries) i blank .last)) ≡ inContract (view h cols loads) i d
+pub contract-test : (h : Head) (cols : Columns) (loads : List (List ℕ)) (i d : ℕ) → i < length (actorsIn (h .actors)) → length (h .actors .entries) ≡ 8 →
+    (r t : Bool) → r ≡ (leb (getD (h .actors .entries) i blank .first) d && leb d (getD (h .actors .entries) i blank .last)) → not r ≡ t →
+    not (inContract (view h cols loads) i d) ≡ t
 unfolding view
-contract-at h cols loads i d k e =
+contract-test h cols loads i d k e r t er et =
     let m = actors-many (h .actors) e in
     let f : getD (actorsIn (h .actors)) i nobody ≡ getD (h .actors .entries) i blank =
     actor-entry (h .actors) i nobody k e ∙ default-any (h .actors .entries) i nobody blank (omega arith) in
-    rw f
+    rw (f, ← er) et
 
 -- ---- 20 to 25
 
 module _ (h : Head) (cols : Columns) (loads : List (List ℕ)) (k : Key) (by n m : ℕ)
     (en : length (actorsIn (h .actors)) ≡ n) (em : length (categoriesIn (h .categories)) ≡ m) where
-  -- the first six tests
-  pub party-tests : firstMet (take 6 (partyTests (view h cols loads) k by))
+  -- the tests, by these numbers
+  pub party-tests : firstMet (partyTests (view h cols loads) k by)
       ≡ cond (not (ltb (k .ceder) n)) (No (state CederUnknown))
       (cond (not (ltb (k .acquirer) n)) (No (state AcquirerUnknown))
       (cond (not (ltb by n)) (No (state ActorUnknown))

@@ -15,19 +15,20 @@ use Rattle.ledger.specs.Ledger.{Key, Rec}
 use Rattle.ledger.specs.Filing.{pairs, changed, statusBy, nextId, born, filed}
 use Rattle.ledger.specs.Calls.{Outcome}
 use Rattle.ledger.specs.declared.Answer.the-variants.{Filed}
-use Rattle.tables.specs.Tables.{Columns, keyIn, keyNumber, isUnder, Listed, downFrom, recordIn, recordsIn, actorsIn, categoriesIn, loadsIn}
+use Rattle.tables.specs.Tables.{Columns, keyIn, keyNumber, downFrom, recordIn, recordsIn, actorsIn, categoriesIn, loadsIn}
+use Rattle.tables.specs.Passing.{isUnder, Listed}
 use Rattle.tables.specs.declared.records.Records.{Records}
 use Rattle.tables.proofs.Down.{down-same}
 use Rattle.recording.specs.Recording.{pairsBelow, Changed}
 use Rattle.tables.specs.More.{putTo, withUntil}
 use Rattle.recording.proofs.Puts.{put-length}
 use Rattle.recording.proofs.Views.{pairs-view, changed-view}
-use Rattle.judging.proofs.Keys.{key-unpacked}
+use Rattle.tables.proofs.Keys.{key-unpacked}
 use Rattle.register.specs.declared.Head.{Head}
 use Rattle.register.specs.declared.verdicts.Places.{Places}
 use Rattle.register.specs.View.{Register, view}
-use Rattle.register.specs.Written.{recordPut, seen, filesAt}
-use Rattle.register.specs.Judging.{keyAt, Fileable, UnderListed, fileAt}
+use Rattle.register.specs.Written.{recordPut, seen}
+use Rattle.register.specs.Judging.{keyAt, Fileable, UnderListed, fileAt, filesAt}
 use Rattle.register.proofs.Filings.{records-many}
 use Rattle.register.proofs.Head as head
 

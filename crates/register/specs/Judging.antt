@@ -1,10 +1,10 @@
--- The tests of a filing by places, in parts: 20 to 31, 32 to 35.
+-- The tests of a filing by places, in parts: 20 to 25, 26 to 30, 31, 32 to 35.
 use mathlib.Core.Path.{_≡_}
-use mathlib.Core.Bool.{Bool, true, false, cond, not, _&&_, _||_}
+use mathlib.Core.Bool.{not, _||_}
 use mathlib.Core.List.{List, [], _∷_, _++_}
 use Prim.Native.Nat.{ℕ, _+_, _<_, min}
-use lib.Dec.{eqb, leb, ltb}
-use lib.ListN.{length, getD}
+use lib.Dec.{eqb, ltb}
+use lib.ListN.{length}
 use Rattle.calendar.specs.Steps.{stepsOf}
 use Rattle.calendar.specs.Clocks.{firstCounted}
 use Rattle.refusals.specs.Tests.{Test, state}
@@ -14,9 +14,12 @@ use Rattle.ledger.specs.Ledger.{Key, Ledger, recordPlaces, actorAt, hasLoad}
 use Rattle.ledger.specs.Calls.{Outcome, withRecords}
 use Rattle.ledger.specs.declared.Answer.the-variants.{Filed}
 use Rattle.ledger.specs.Filing.{keyOf, pairs, filed, nextId, statusBy, noActor, noCategory, inContract, reach, cederBelow, acquirerAbove, cederAbove, acquirerBelow, failing}
-use Rattle.tables.specs.Tables.{keyNumber, isUnder, Listed}
+use Rattle.tables.specs.Tables.{keyNumber}
+use Rattle.tables.specs.Passing.{isUnder, Listed}
 use Rattle.tables.specs.declared.records.Records.{Records}
 use Rattle.register.specs.declared.verdicts.Places.{Places}
+use Rattle.register.specs.View.{Register, held}
+use Rattle.register.specs.Written.{Done, recordPut}
 
 -- the key of a filing's places
 abbrev pub keyAt : Places → Key
@@ -27,7 +30,7 @@ pub record Placed (l : Ledger) (submitter : List ℕ) (n : Notification) (at : P
   pub key : keyAt at ≡ keyOf l n
   pub by : at .submitter ≡ actorAt (l .actors) submitter
 
--- 20 to 31
+-- 20 to 25
 unfoldable pub partyTests : Ledger → Key → ℕ → List Test
 partyTests l k by =
     (noActor l (k .ceder), state CederUnknown)
@@ -36,13 +39,21 @@ partyTests l k by =
     ∷ (noCategory l (k .category), state CategoryUnknown)
     ∷ (not (eqb by (k .ceder) || eqb by (k .acquirer)), state NotParty)
     ∷ (eqb (k .ceder) (k .acquirer), state OneActor)
-    ∷ (ltb (k .day) (l .clock .day), state DayPast)
+    ∷ []
+
+-- 26 to 30
+unfoldable pub dayTests : Ledger → Key → List Test
+dayTests l k =
+    (ltb (k .day) (l .clock .day), state DayPast)
     ∷ (ltb (l .clock .day + reach) (k .day), state DayFar)
     ∷ (not (ltb (firstCounted (l .clock) (k .day)) (stepsOf (k .day))), state NoStep)
     ∷ (not (inContract l (k .acquirer) (k .day)), state AcquirerContract)
     ∷ (not (inContract l (k .ceder) (k .day)), state CederContract)
-    ∷ (not (hasLoad (l .loads) (k .ceder) (k .category) (k .day)), state NoLoad)
     ∷ []
+
+-- 31
+unfoldable pub loadTest : Ledger → Key → Test
+loadTest l k = (not (hasLoad (l .loads) (k .ceder) (k .category) (k .day)), state NoLoad)
 
 -- 32 to 35
 unfoldable pub stepTests : Ledger → Key → List ℕ → List Test
@@ -56,9 +67,10 @@ stepTests l k ps =
 -- 20 to 36, by places
 unfoldable pub placeTests : Ledger → Key → ℕ → List ℕ → List Test
 placeTests l k by ps =
-    partyTests l k by ++ (stepTests l k ps ++ ((not (ltb (length (l .records)) recordPlaces), state Full) ∷ []))
+    partyTests l k by
+    ++ (dayTests l k ++ ((loadTest l k ∷ stepTests l k ps) ++ ((not (ltb (length (l .records)) recordPlaces), state Full) ∷ [])))
 
--- what 20 to 31 leave for the sums: places in their ranges, two actors, a counted step
+-- what 20 to 30 leave for the sums: places in their ranges, two actors, a counted step
 pub record Judgeable (l : Ledger) (at : Places) : Type 0 where
   pub ceder : at .ceder < 8
   pub acquirer : at .acquirer < 8
@@ -85,3 +97,7 @@ fileAt l k by ps =
       ledger = withRecords l (filed (pairs by k ps (l .records)) l by k ps);
       answer = Filed (nextId l) (statusBy (pairs by k ps (l .records))) (firstCounted (l .clock) (k .day));
     }
+
+-- and the register that it leaves
+abbrev pub filesAt : Register → Key → ℕ → List ℕ → Done
+filesAt r k by ps = record { register = recordPut r by k ps; outcome = fileAt (held r) k by ps }

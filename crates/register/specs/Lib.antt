@@ -1,4 +1,4 @@
--- The ledger that a register holds, the tests of a filing by places, and what a call leaves.
+-- The ledger that a register holds, what a call leaves, and the tests of a filing by places.
 pub mod View
-pub mod Judging
 pub mod Written
+pub mod Judging

@@ -22,7 +22,6 @@ use Rattle.tables.specs.declared.loads.Loads.{Loads}
 use Rattle.tables.specs.declared.records.Records.{Records}
 use Rattle.register.specs.declared.Head.{Head}
 use Rattle.register.specs.View.{Register, held}
-use Rattle.register.specs.Judging.{fileAt}
 
 -- a fresh head: all places hold 0
 abbrev pub freshHead : Head
@@ -126,10 +125,6 @@ pub record Done : Type 0 where
 
 abbrev pub does : Register → Call → Done
 does r c = record { register = leaves r c; outcome = step (held r) c }
-
--- what a filing that is accepted does, by its places
-abbrev pub filesAt : Register → Key → ℕ → List ℕ → Done
-filesAt r k by ps = record { register = recordPut r by k ps; outcome = fileAt (held r) k by ps }
 
 -- what is seen of a call: the register after it, the ledger that this holds, and the answer
 abbrev pub seen : Register → Answer → Done

@@ -34,7 +34,7 @@ use tables::loads::Loads;
 use tables::records::Records;
 
 // A refusal that comes from the input; its place isn't named.
-pub fn no_input(r: InputRefusal) -> Verdict
+pub(crate) fn no_input(r: InputRefusal) -> Verdict
     ensures { λ v. ⌜ v ≡ Verdict.No (Refusal.Input r 0) ⌝ }
 {
     Verdict::No(Refusal::Input(r, 0))
@@ -75,7 +75,7 @@ impl Head {
     }
 
     // A call that is refused leaves the head as it was.
-    pub fn refused(self, r: Refusal) -> Reply
+    pub(crate) fn refused(self, r: Refusal) -> Reply
         ensures { λ y. ⌜ y ≡ record { head = self; answer = Answer.Refused r } ⌝ }
     {
         Reply {

@@ -1,13 +1,16 @@
 // Judging a filing that was read: 20 to 36.
 ghost use mathlib.Core.Path.{_≡_};
-ghost use mathlib.Core.List.{List};
-ghost use Prim.Native.Nat.{ℕ, _<_};
-ghost use lib.ListN.{length, take, drop};
+ghost use mathlib.Core.Bool.{_&&_};
+ghost use mathlib.Core.List.{List, _∷_};
+ghost use Prim.Native.Nat.{ℕ, _<_, _≤_};
+ghost use lib.Dec.{leb};
+ghost use lib.ListN.{length};
 ghost use Rattle.refusals.specs.Tests.{firstMet};
-ghost use Rattle.ledger.specs.Filing.{inContract};
 ghost use Rattle.tables.specs.Tables.{Columns, actorsIn};
+ghost use Rattle.tables.specs.Passing.{loadMost};
+ghost use Rattle.tables.specs.declared.loads.Loads.{Loads};
 ghost use Rattle.register.specs.View.{view};
-ghost use Rattle.register.specs.Judging.{keyAt, Placed, partyTests, stepTests, placeTests, Judgeable, UnderListed};
+ghost use Rattle.register.specs.Judging.{keyAt, Placed, partyTests, dayTests, loadTest, stepTests, placeTests, Judgeable, UnderListed};
 use crate::Head;
 use calendar::steps_of;
 use judging::nets::BASE;
@@ -15,6 +18,7 @@ use judging::nets::start_net;
 use judging::passing::pass_records;
 use judging::steps::no;
 use judging::steps::step_verdict;
+use ledger::Actor;
 use notification::Notification;
 use refusals::Refusal;
 use refusals::StateRefusal;
@@ -28,6 +32,7 @@ use tables::loads::last_of;
 use tables::loads::load_number;
 use tables::records::RECORDS;
 use tables::records::key_number;
+use tables::records::wide;
 
 // How many days after the clock's a filing may be for.
 pub const REACH: u32 = 7;
@@ -57,9 +62,28 @@ fn refused_by(r: Refusal) -> Judged
     }
 }
 
+// Whether a day is in an actor's contract.
+fn in_contract(e: Actor, day: u32) -> bool
+    ensures { λ r. ⌜ r ≡ (leb (e .first) day && leb day (e .last)) ⌝ }
+{
+    (e.first <= day) & (day <= e.last)
+}
+
+// The approved power of a load that was found, or 0.
+fn approved_of(approved: &[u16; 64], at: Found) -> u32
+    ensures { λ r. ⌜ ((x : Loads) → x .approved ≡ now (approved .entry) → r ≡ loadMost x at) × (r ≤ 65535) ⌝ }
+{
+    if let Found::At(i) = at {
+        if i < LOADS {
+            return wide(approved[i as usize]);
+        }
+    }
+    0
+}
+
 impl Head {
     // Where the actors and the category of a filing are enrolled.
-    pub fn places(self, submitter: &[u8], n: Notification) -> Places
+    pub(crate) fn places(self, submitter: &[u8], n: Notification) -> Places
         ensures { λ r. ⌜ ((cols : Columns) (loads : List (List ℕ)) → Placed (view self cols loads) (now (submitter .entry)) n r) ⌝ }
     {
         let key = n.key;
@@ -83,7 +107,7 @@ impl Head {
 
     // 20 to 25: who files, for whom, in which category.
     fn enrolled(self, at: Places) -> Verdict
-        ensures { λ r. ⌜ ((cols : Columns) (loads : List (List ℕ)) → r ≡ firstMet (take 6 (partyTests (view self cols loads) (keyAt at) (at .submitter)))) ⌝ }
+        ensures { λ r. ⌜ ((cols : Columns) (loads : List (List ℕ)) → r ≡ firstMet (partyTests (view self cols loads) (keyAt at) (at .submitter))) ⌝ }
     {
         let n = least(self.actors.count, ACTORS);
         if !(at.ceder < n) {
@@ -107,20 +131,10 @@ impl Head {
         Verdict::Pass
     }
 
-    // Whether a day is in the contract of the actor at a place.
-    fn in_contract(self, place: u32, day: u32) -> bool
-        requires { ⌜ place < length (actorsIn (self .actors)) ⌝ }
-        ensures { λ r. ⌜ ((cols : Columns) (loads : List (List ℕ)) → r ≡ inContract (view self cols loads) place day) ⌝ }
-    {
-        let entries = self.actors.entries;
-        let e = entries[place as usize];
-        (e.first <= day) & (day <= e.last)
-    }
-
-    // 26 to 31: the day, the contracts, the ceder's load.
+    // 26 to 30: the day and the contracts.
     fn timely(self, at: Places) -> Verdict
-        requires { ⌜ ((at .ceder < length (actorsIn (self .actors))) × (at .acquirer < length (actorsIn (self .actors)))) × (at .category < 4) ⌝ }
-        ensures { λ r. ⌜ ((cols : Columns) (loads : List (List ℕ)) → r ≡ firstMet (drop 6 (partyTests (view self cols loads) (keyAt at) (at .submitter)))) ⌝ }
+        requires { ⌜ (at .ceder < length (actorsIn (self .actors))) × (at .acquirer < length (actorsIn (self .actors))) ⌝ }
+        ensures { λ r. ⌜ ((cols : Columns) (loads : List (List ℕ)) → r ≡ firstMet (dayTests (view self cols loads) (keyAt at))) ⌝ }
     {
         let clock = self.clock;
         let day = at.day;
@@ -133,22 +147,20 @@ impl Head {
         if !(clock.first_counted(day) < steps_of(day)) {
             return no(StateRefusal::NoStep, 0);
         }
-        if !self.in_contract(at.acquirer, day) {
+        let entries = self.actors.entries;
+        let acquirer = entries[at.acquirer as usize];
+        if !in_contract(acquirer, day) {
             return no(StateRefusal::AcquirerContract, 0);
         }
-        if !self.in_contract(at.ceder, day) {
+        let ceder = entries[at.ceder as usize];
+        if !in_contract(ceder, day) {
             return no(StateRefusal::CederContract, 0);
-        }
-        let held = least(self.loads.count, LOADS);
-        let load_keys = self.loads.keys;
-        let found = last_of(&load_keys, held, load_number(at.ceder, at.category, day));
-        if let Found::Nothing = found {
-            return no(StateRefusal::NoLoad, 0);
         }
         Verdict::Pass
     }
 
-    // 32 to 35: what ceder and acquirer would have at the counted steps. The places of the records under the key are listed.
+    // 31 to 35: the ceder's load, and what ceder and acquirer would have at the counted steps. Where all pass, the places of the
+    // records under the key are listed.
     fn steps_fit(
         self,
         under: &mut [u8; 256],
@@ -160,23 +172,28 @@ impl Head {
         ps: [u16; 50],
     ) -> Judged
         requires { ⌜ ((cols : Columns) (loads : List (List ℕ)) → Judgeable (view self cols loads) at) × (length (now under) ≡ 256) ⌝ }
-        ensures { λ r. ⌜ (r .verdict ≡ firstMet (stepTests (view self (record { keys = now (keys .entry); marks = now (marks .entry); rows = now (rows .entry) }) (now (loads .entry))) (keyAt at) ps)) × UnderListed (self .records) at (now (keys .entry)) (r .count) (now (under .exit)) ⌝ }
+        ensures { λ r. ⌜ (r .verdict ≡ firstMet (loadTest (view self (record { keys = now (keys .entry); marks = now (marks .entry); rows = now (rows .entry) }) (now (loads .entry))) (keyAt at) ∷ stepTests (view self (record { keys = now (keys .entry); marks = now (marks .entry); rows = now (rows .entry) }) (now (loads .entry))) (keyAt at) ps)) × (r .verdict ≡ Verdict.Pass → UnderListed (self .records) at (now (keys .entry)) (r .count) (now (under .exit))) ⌝ }
     {
         let day = at.day;
+        let held = least(self.loads.count, LOADS);
+        let load_keys = self.loads.keys;
+        let ceders = last_of(&load_keys, held, load_number(at.ceder, at.category, day));
+        if let Found::Nothing = ceders {
+            return refused_by(Refusal::State(StateRefusal::NoLoad, 0));
+        }
+        let acquirers = last_of(&load_keys, held, load_number(at.acquirer, at.category, day));
+        let approved = self.loads.approved;
+        let ceders_most = approved_of(&approved, ceders);
+        let acquirers_most = approved_of(&approved, acquirers);
         let number = key_number(at.ceder, at.acquirer, at.category, day);
         let clock = self.clock;
         let first = clock.first_counted(day);
         let until = steps_of(day);
-        let table = self.loads;
-        let held = least(table.count, LOADS);
-        let load_keys = table.keys;
-        let ceders = last_of(&load_keys, held, load_number(at.ceder, at.category, day));
-        let acquirers = last_of(&load_keys, held, load_number(at.acquirer, at.category, day));
+        let statuses = self.records.statuses;
         let mut ceder = [BASE; 50];
         start_net(&mut ceder, loads, ceders);
         let mut acquirer = [BASE; 50];
         start_net(&mut acquirer, loads, acquirers);
-        let statuses = self.records.statuses;
         let n = least(self.records.count, RECORDS);
         let count = pass_records(
             &mut ceder,
@@ -195,8 +212,8 @@ impl Head {
             &ceder,
             &acquirer,
             &ps,
-            table.approved_at(ceders),
-            table.approved_at(acquirers),
+            ceders_most,
+            acquirers_most,
             first,
             until,
         );

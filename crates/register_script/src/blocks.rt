@@ -4,13 +4,17 @@ ghost use lib.ListN.{length};
 use crate::bodies::body_of;
 use crate::lines::BLOCK;
 use crate::lines::LF;
+use crate::lines::WAITING;
 use crate::lines::flush;
 use crate::lines::line_end;
 use crate::lines::put;
 use libc::STDIN_FILENO;
 use register::Head;
+use script::reading::Line;
+use script::reading::read_engagement;
 use session::answering::answer;
 use session::asking::ask;
+use session::asking::engaged;
 use std::num::wrapping_add_u64;
 
 // The most bytes of a line, and one more: what is kept of a line whose end hasn't come yet. A line that is too long stays so when
@@ -25,6 +29,17 @@ struct Block {
     at: usize,
 }
 
+// Whether a line begins as one that is a call does: T, A, C, L or F.
+fn may_call(line: &[u8]) -> bool {
+    if line.len() == 0 {
+        return false;
+    }
+    match line[0] {
+        b'T' | b'A' | b'C' | b'L' | b'F' => true,
+        _ => false,
+    }
+}
+
 // Answers all lines of a block that have their LF.
 fn answer_block(
     head: Head,
@@ -37,7 +52,7 @@ fn answer_block(
     number: u64,
     input: &[u8],
     end: usize,
-    output: &mut [u8; BLOCK],
+    output: &mut [u8; WAITING],
 ) -> Block
     requires { ⌜ end ≤ length (now input) ⌝ }
     ensures { λ r. ⌜ r .at ≤ end ⌝ }
@@ -54,11 +69,30 @@ fn answer_block(
         }
         let line = &block[at..stop];
         number = wrapping_add_u64(number, 1);
-        let asking = ask(head, &*keys, &*marks, &*rows, &*loads, &mut *powers, line);
-        if asking.asks {
-            out = put(output, out, number, asking.said);
+        if let Line::Engagement(actor, category, day, step) = read_engagement(line) {
+            let said = engaged(
+                head,
+                &*keys,
+                &*marks,
+                &*rows,
+                &*loads,
+                line,
+                actor,
+                category,
+                day,
+                step,
+            );
+            out = put(output, out, number, said);
             at = stop + 1;
             continue;
+        }
+        if !may_call(line) {
+            let asking = ask(head, &*keys, &*marks, &*rows, &*loads, &mut *powers, line);
+            if asking.asks {
+                out = put(output, out, number, asking.said);
+                at = stop + 1;
+                continue;
+            }
         }
         let read = body_of(line, &mut *powers, &mut *body);
         let n = read.length;
@@ -116,7 +150,7 @@ pub fn run(
     powers: &mut [u32; 256],
     body: &mut [u8],
     input: &mut [u8; BLOCK],
-    output: &mut [u8; BLOCK],
+    output: &mut [u8; WAITING],
 ) {
     let mut head = Head::fresh();
     let mut number: u64 = 0;

@@ -3,13 +3,14 @@ ghost use Prim.Native.Nat.{_≤_, _+_};
 ghost use lib.ListN.{length};
 use answers::Said;
 use libc::STDOUT_FILENO;
-use script::writing::write_answer;
+use script::writing::LINE_ROOM;
+use script::writing::write_answer_at;
 
-// The most bytes that are read or written at once.
+// The most bytes that are read at once.
 pub const BLOCK: usize = 65536;
 
-// The most bytes of an answer's line.
-const LINE_ROOM: usize = 64;
+// The most bytes of answers that wait to be written: few, so that a short run touches little memory.
+pub const WAITING: usize = 16384;
 
 // What ends a line.
 pub const LF: u8 = b'\n';
@@ -64,11 +65,11 @@ pub fn flush(output: &[u8], out: usize)
 }
 
 // Where the next answer goes: behind those that wait, or first, once these are written, where there is no room behind them.
-fn room_for(output: &[u8; BLOCK], out: usize) -> usize
-    requires { ⌜ out ≤ 65536 ⌝ }
-    ensures { λ r. ⌜ r + 64 ≤ 65536 ⌝ }
+fn room_for(output: &[u8; WAITING], out: usize) -> usize
+    requires { ⌜ out ≤ 16384 ⌝ }
+    ensures { λ r. ⌜ r + 64 ≤ 16384 ⌝ }
 {
-    if LINE_ROOM <= BLOCK - out {
+    if LINE_ROOM <= WAITING - out {
         return out;
     }
     flush(output, out);
@@ -76,17 +77,10 @@ fn room_for(output: &[u8; BLOCK], out: usize) -> usize
 }
 
 // Puts a line that answers behind those that wait, and gives where the next goes.
-pub fn put(output: &mut [u8; BLOCK], out: usize, number: u64, said: Said) -> usize
-    requires { ⌜ out ≤ 65536 ⌝ }
-    ensures { λ r. ⌜ r ≤ 65536 ⌝ }
+pub fn put(output: &mut [u8; WAITING], out: usize, number: u64, said: Said) -> usize
+    requires { ⌜ out ≤ 16384 ⌝ }
+    ensures { λ r. ⌜ r ≤ 16384 ⌝ }
 {
-    let mut text = [0u8; 64];
-    let n = write_answer(number, said, &mut text) as usize;
     let at = room_for(&*output, out);
-    let mut i: usize = 0;
-    while i < LINE_ROOM {
-        output[at + i] = text[i];
-        i += 1;
-    }
-    at + n
+    write_answer_at(number, said, output, at)
 }

@@ -12,7 +12,7 @@ fn main() {
     let mut powers = [0u32; 256];
     let mut body = [0u8; 4097];
     let mut input = io::large_buffer();
-    let mut output = io::large_buffer();
+    let mut output = [0u8; 16384];
     blocks::run(
         &mut keys,
         &mut marks,

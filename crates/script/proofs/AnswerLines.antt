@@ -123,11 +123,11 @@ module _ (l : List ℕ) (at : ℕ) (said : Said) (b : List ℕ) (second : ℕ) w
       let v = r .1 in
       (rw t (placed-end l at _ d end 10 (placed-join p (placed-join (q .0) (r .0)))), omega arith)
 
-pub answer-placed : (l : List ℕ) (number : ℕ) (said : Said) (b : List ℕ) (second : ℕ) (c : List ℕ) (end : ℕ) → number < wordEnd
-    → Placed l 0 (decimal number) b second → Placed b second (saidText said) c end × (end ≤ second + 37)
-    → Placed l 0 (answerLine number said) c end × (end ≤ 64)
+pub answer-placed : (l : List ℕ) (at number : ℕ) (said : Said) (b : List ℕ) (second : ℕ) (c : List ℕ) (end : ℕ) → number < wordEnd
+    → Placed l at (decimal number) b second → Placed b second (saidText said) c end × (end ≤ second + 37)
+    → Placed l at (answerLine number said) c end × (end ≤ at + 64)
 unfolding answerLine
-answer-placed l number said b second c end h p q =
+answer-placed l at number said b second c end h p q =
     let f = p .follows in
     let r = q .1 in
     (placed-join p (q .0), omega (arith, decimal-most number h))

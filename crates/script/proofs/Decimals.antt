@@ -43,6 +43,25 @@ length-more n h l = ap length (decimal-more n h l) ∙ length-append (decimal (n
 pub length-one : (n : ℕ) → n < 10 → length (decimal n) ≡ 1
 length-one n h = ap length (decimal-one n h)
 
+pub length-two : (n : ℕ) → 10 ≤ n → n < 100 → length (decimal n) ≡ 2
+length-two n h l = length-more n h (omega arith) ∙ ap (λ k. k + 1) (length-one (n / 10) (omega arith))
+
+pub length-three : (n : ℕ) → 100 ≤ n → n < 1000 → length (decimal n) ≡ 3
+length-three n h l = length-more n (omega arith) (omega arith) ∙ ap (λ k. k + 1) (length-two (n / 10) (omega arith) (omega arith))
+
+pub length-four : (n : ℕ) → 1000 ≤ n → n < 10000 → length (decimal n) ≡ 4
+length-four n h l = length-more n (omega arith) (omega arith) ∙ ap (λ k. k + 1) (length-three (n / 10) (omega arith) (omega arith))
+
+pub length-later : (n : ℕ) → 10000 ≤ n → n < wordEnd → length (decimal n) ≡ length (decimal (n / 10000)) + 4
+length-later n h l =
+    let a = length-more n (omega arith) l in
+    let b = length-more (n / 10) (omega arith) (omega arith) in
+    let c = length-more (n / 10 / 10) (omega arith) (omega arith) in
+    let d = length-more (n / 10 / 10 / 10) (omega arith) (omega arith) in
+    let e : n / 10 / 10 / 10 / 10 ≡ n / 10000 = omega arith in
+    let f = ap (λ k. length (decimal k)) e in
+    omega arith
+
 -- ---- how many they are
 
 pub few : (j k n : ℕ) → n < 10 ^ suc k → length (decimalIn j n) ≤ suc k

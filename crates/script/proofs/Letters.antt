@@ -9,7 +9,7 @@ use lib.ListN.{length, getD, drop}
 use borrow.Author.Tests.{eqb-true, eq-eqb, ne-eqb, le-leb, lt-leb}
 use Rattle.lists.proofs.Tests.{by-test}
 use Rattle.notification.specs.Reading.{onto}
-use Rattle.script.specs.Lines.{Asked, unknown, known, field, lineMost, comma, fields, letterOf, byLetter, lineOf, advanceIn, enrolIn, categoryIn, loadIn, fileIn, engagementIn, recordIn}
+use Rattle.script.specs.Lines.{Asked, unknown, known, field, lineMost, comma, fields, letterOf, byLetter, lineOf, engagementOf, advanceIn, enrolIn, categoryIn, loadIn, fileIn, engagementIn, recordIn}
 use Rattle.script.specs.Spans.{start, Read}
 use Rattle.script.specs.Walking.{fieldsFrom, ReadAs}
 use Rattle.script.specs.declared.reading.Line.{Line}
@@ -117,3 +117,18 @@ letter-e fs = refl
 pub letter-r : (fs : List (List ℕ)) → byLetter 82 fs ≡ recordIn fs
 unfolding byLetter
 letter-r fs = refl
+
+-- ---- a line that begins with E, or counts as unknown
+
+module _ (line : List ℕ) where
+  pub engagement-none : unknown ≡ lineOf line → unknown ≡ engagementOf line
+  unfolding engagementOf
+  engagement-none e = sym (rw (← e) (unknown-either (eqb (getD line 0 0) 69)))
+
+  pub engagement-other : (getD line 0 0 ≡ 69 → ⊥) → unknown ≡ engagementOf line
+  unfolding engagementOf
+  engagement-other ne = rw (ne-eqb (getD line 0 0) 69 ne)
+
+  pub engagement-is : getD line 0 0 ≡ 69 → engagementOf line ≡ lineOf line
+  unfolding engagementOf
+  engagement-is e = rw (eq-eqb (getD line 0 0) 69 e)

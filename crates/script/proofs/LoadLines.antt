@@ -14,9 +14,9 @@ use Rattle.calendar.specs.Dates.{dayCount}
 use Rattle.script.specs.Numbers.{numberEnd, isNumber, valueOf, dayIn, isDay}
 use Rattle.script.specs.Lines.{Asked, load, unknown, powersOf, known, lineMost, loadIn}
 use Rattle.script.specs.Spans.{cut, start, asked, Read}
-use Rattle.script.specs.Walking.{fieldsFrom, FieldEnd, numberIn, countIn}
+use Rattle.script.specs.Walking.{isComma, fieldsFrom, FieldEnd, numberIn, countIn}
 use Rattle.script.specs.declared.reading.Line.the-variants.{Load, Unknown}
-use Rattle.script.proofs.Parting.{isComma, restAt}
+use Rattle.script.proofs.Parting.{restAt}
 use Rattle.script.proofs.Powers.{count-some}
 use Rattle.script.proofs.LineKinds.{some-after, none-after, date-and-number, number-passed}
 
@@ -75,6 +75,16 @@ module _ (line : List ℕ) (a : ℕ) (pa : FieldEnd line start a) where
               let k = ltb-true 0 n (and-right (ltb day dayCount && ltb v numberEnd) (ltb 0 n) t) in
               let s = count-some (fieldsFrom line (d + 1)) (rw (← r) k) in
               (s .0, r ∙ s .1)
+
+          -- the numbers read are put into the powers' places
+          pub load-filled : (powers after zeros numbers : List ℕ) → 256 ≤ length zeros → n ≤ 256 → (ltb day dayCount && ltb v numberEnd && ltb 0 n) ≡ true
+              → (0 < n → numbers ≡ sets zeros 0 (map valueOf (fieldsFrom line (d + 1)))) → after ≡ sets powers 0 (take n numbers)
+              → after ≡ sets powers 0 (map valueOf (fieldsFrom line (d + 1)))
+          load-filled powers after zeros numbers l m t held e =
+              let some = ltb-true 0 n (and-right (ltb day dayCount && ltb v numberEnd) (ltb 0 n) t) in
+              let k : length (map valueOf (fieldsFrom line (d + 1))) ≡ n = length-map (fieldsFrom line (d + 1)) valueOf ∙ sym (load-numbers t .1) in
+              let w : take n numbers ≡ map valueOf (fieldsFrom line (d + 1)) = rw (held some, ← k) (take-sets zeros (map valueOf (fieldsFrom line (d + 1))) (omega arith)) in
+              e ∙ ap (sets powers 0) w
 
           pub load-good : (powers after : List ℕ) → length powers ≡ 256 → n ≤ 256 → (ltb day dayCount && ltb v numberEnd && ltb 0 n) ≡ true
               → after ≡ sets powers 0 (map valueOf (fieldsFrom line (d + 1))) → Read line powers (Load a b day v n) after (loadIn (fieldsFrom line start))

@@ -5,19 +5,16 @@ use mathlib.Core.List.{List, [], _∷_}
 use Prim.Native.Nat.{ℕ, zero, suc, _+_, _-_, _<_, _≤_}
 use native.Mathlib.Omega.{arith}
 use lib.Dec.{eqb, ltb, leb, leb·suc-suc}
-use lib.ListN.{length, getD, take, drop, length-drop}
-use lib.Seq.{drop-drop, getD-drop}
+use lib.ListN.{length, getD, take, drop, length-drop, take-append-drop}
+use lib.Seq.{drop-drop, getD-drop, length-take-le}
 use borrow.Author.Tests.{ltb-true, ltb-false, lt-ltb, le-ltb, le-leb, lt-leb, ne-eqb}
 use Rattle.lists.specs.Searches.{placeOf}
 use Rattle.lists.proofs.Tests.{by-test}
-use Rattle.lists.proofs.Places.{place-here, place-past, place-end}
+use Rattle.lists.proofs.Places.{place-here, place-past, place-end, place-later}
 use Rattle.notification.specs.Reading.{onto}
 use Rattle.script.specs.Lines.{comma, fields}
 use Rattle.script.specs.Spans.{cut}
-use Rattle.script.specs.Walking.{fieldsFrom, FieldEnd}
-
-abbrev pub isComma : ℕ → Bool
-isComma b = eqb b comma
+use Rattle.script.specs.Walking.{isComma, fieldsFrom, FieldEnd}
 
 -- the fields after the one that ends at the k-th byte
 abbrev pub restAt : List ℕ → ℕ → List (List ℕ)
@@ -78,6 +75,32 @@ module _ (line : List ℕ) (from i : ℕ) (before : from ≤ i) (inside : i < le
   comma-past ne =
       let l = length-drop from line in
       omega (arith, place-past isComma (drop from line) (i - from) 0 (omega arith) none (rw here (ne-eqb (getD line i 0) comma ne)))
+
+-- a comma that is none of the first k is looked for after them
+place-after : (s : List ℕ) (k : ℕ) → k ≤ placeOf isComma s → placeOf isComma s ≡ k + placeOf isComma (drop k s)
+unfolding placeOf
+place-after s zero h = omega arith
+place-after [] (suc k) h = absurd (omega arith)
+place-after (b ∷ s) (suc k) h = go (isComma b) h (place-after s k)
+  where
+    go : (t : Bool) → suc k ≤ cond t 0 (suc (placeOf isComma s)) → (k ≤ placeOf isComma s → placeOf isComma s ≡ k + placeOf isComma (drop k s))
+        → cond t 0 (suc (placeOf isComma s)) ≡ suc k + placeOf isComma (drop k s)
+    go true h ih = absurd (omega arith)
+    go false h ih = omega (arith, ih (omega arith))
+
+-- bytes without a comma are passed at once
+pub commas-past : (line : List ℕ) (from i next : ℕ) → from ≤ i → i ≤ next → next ≤ length line → i - from ≤ placeOf isComma (drop from line)
+    → length (take (next - i) (drop i line)) ≤ placeOf isComma (take (next - i) (drop i line)) → next - from ≤ placeOf isComma (drop from line)
+commas-past line from i next a b h none more =
+    let n : from + (i - from) ≡ i = omega arith in
+    let l = length-drop i line in
+    let m = length-take-le (next - i) (drop i line) (omega arith) in
+    let p = place-after (drop from line) (i - from) none in
+    let q : drop (i - from) (drop from line) ≡ drop i line = drop-drop (i - from) from line ∙ ap (λ k. drop k line) n in
+    let r : placeOf isComma (drop i line) ≡ length (take (next - i) (drop i line)) + placeOf isComma (drop (next - i) (drop i line)) =
+    ap (placeOf isComma) (sym (take-append-drop (next - i) (drop i line))) ∙ place-later isComma (take (next - i) (drop i line)) (drop (next - i) (drop i line)) more in
+    let t = ap (placeOf isComma) q in
+    omega arith
 
 pub comma-nowhere : (line : List ℕ) (from i : ℕ) → from ≤ i → i ≤ length line → length line ≤ i → i - from ≤ placeOf isComma (drop from line)
     → FieldEnd line from i

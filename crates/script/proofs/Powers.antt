@@ -6,11 +6,10 @@ use Prim.Native.Nat.{ℕ, zero, suc, _+_, _-_, _*_, _<_, _≤_}
 use native.Mathlib.Numerals.{add-one}
 use native.Mathlib.Omega.{arith}
 use lib.Dec.{ltb}
-use lib.ListN.{length, set, take, drop, length-take, length-drop, length-set}
-use lib.Seq.{sets}
+use lib.ListN.{length, getD, set, take, drop, length-take, length-set, drop-of-length-le}
+use lib.Seq.{sets, drop-cons, getD-take, length-take-le}
 use borrow.Author.Tests.{ltb-true, lt-ltb, le-ltb}
 use Rattle.lists.specs.Searches.{every}
-use Rattle.lists.proofs.Tests.{and-left, and-right}
 use Rattle.script.specs.Numbers.{numberEnd, isNumber, valueOf}
 use Rattle.script.specs.Spans.{cut}
 use Rattle.script.specs.Walking.{fieldsFrom, FieldEnd, numberIn, countIn}
@@ -74,32 +73,35 @@ count-some fs h = go (every isNumber fs) refl h
 -- ---- put into places: what the rest of the fields will put there is what all of them put
 
 pub record Filled (line : List ℕ) (from : ℕ) (before : List ℕ) (at k : ℕ) (now : List ℕ) : Type 0 where
-  pub inside : at ≤ length line + 1
-  pub room : k + length (fieldsFrom line at) ≤ length now
   pub same-length : length now ≡ length before
-  pub numbers : every isNumber (fieldsFrom line at) ≡ true
   pub holds : sets now k (map valueOf (fieldsFrom line at)) ≡ sets before 0 (map valueOf (fieldsFrom line from))
 
-module _ (line : List ℕ) (from : ℕ) (before : List ℕ) (at k : ℕ) (now : List ℕ) (end : ℕ) (c : Filled line from before at k now) (f : FieldEnd line at end) where
-  pub filled-room : k < length now
-  filled-room = let r = rw (f .parts) at (c .room) in omega arith
-
-  pub filled-more : (v : ℕ) → v ≡ numberIn (cut line at end) → Filled line from before (end + 1) (k + 1) (set now k v)
-  filled-more w q =
-      let ns = rw (f .parts) at (c .numbers) in
-      let n = and-left (isNumber (cut line at end)) (every isNumber (fieldsFrom line (end + 1))) ns in
-      let v = number-value (cut line at end) n in
-      let r = rw (f .parts) at (c .room) in
-      let i = f .inside in
-      let s = length-set now k w in
-      record {
-        inside = omega arith;
-        room = omega (arith, s);
-        same-length = s ∙ c .same-length;
-        numbers = and-right (isNumber (cut line at end)) (every isNumber (fieldsFrom line (end + 1))) ns;
-        holds = rw (q, v, add-one k) (rw (f .parts) at (c .holds));
-      }
+pub filled-more : (line : List ℕ) (from : ℕ) (before : List ℕ) (at k : ℕ) (now : List ℕ) (end : ℕ) → Filled line from before at k now → FieldEnd line at end →
+    (v : ℕ) → v ≡ numberIn (cut line at end) → v < numberEnd → Filled line from before (end + 1) (k + 1) (set now k v)
+filled-more line from before at k now end c f w q l =
+    let h = rw q at l in
+    let n : isNumber (cut line at end) ≡ true = sym (number-test (cut line at end)) ∙ lt-ltb (numberIn (cut line at end)) numberEnd h in
+    let v = number-value (cut line at end) n in
+    record {
+      same-length = length-set now k w ∙ c .same-length;
+      holds = rw (q, v, add-one k) (rw (f .parts) at (c .holds));
+    }
 
 pub filled-all : (line : List ℕ) (from : ℕ) (before : List ℕ) (at k : ℕ) (now : List ℕ) → length line < at → Filled line from before at k now
     → now ≡ sets before 0 (map valueOf (fieldsFrom line from))
 filled-all line from before at k now h c = rw (from-past line at h) at (c .holds)
+
+-- ---- the first numbers put into other places, one after another
+
+pub put-more : (now ns : List ℕ) (count k : ℕ) → count ≤ length ns → k < count
+    → sets now k (drop k (take count ns)) ≡ sets (set now k (getD ns k 0)) (k + 1) (drop (k + 1) (take count ns))
+put-more now ns count k h l =
+    let t = length-take-le count ns h in
+    let d = drop-cons (take count ns) k 0 (omega arith) in
+    rw (d, getD-take count ns k 0 l, add-one k)
+
+pub put-all : (now ns : List ℕ) (count k : ℕ) → count ≤ length ns → count ≤ k → sets now k (drop k (take count ns)) ≡ now
+put-all now ns count k h l =
+    let t = length-take-le count ns h in
+    let e : length (take count ns) ≤ k = omega arith in
+    rw (drop-of-length-le (take count ns) e)

@@ -3,7 +3,7 @@ use mathlib.Core.Bool.{Bool, cond, _&&_}
 use mathlib.Core.List.{List, [], _∷_, map}
 use Prim.Native.Nat.{ℕ}
 use lib.Dec.{leb, eqb}
-use lib.ListN.{length}
+use lib.ListN.{length, getD}
 use Rattle.lists.specs.Searches.{every}
 use Rattle.notification.specs.Reading.{onto}
 use Rattle.script.specs.Numbers.{isNumber, valueOf, isDay, dayIn}
@@ -102,6 +102,10 @@ byLetter b fs =
 -- WHAT A LINE ASKS
 unfoldable pub lineOf : List ℕ → Asked
 lineOf line = known (leb (length line) lineMost) (field (λ letter. byLetter (letterOf letter)) (fields line))
+
+-- a line that begins with E; any other counts as unknown
+unfoldable pub engagementOf : List ℕ → Asked
+engagementOf line = cond (eqb (getD line 0 0) 69) (lineOf line) unknown
 
 -- the powers of a load that a line asks for
 abbrev pub powersOf : Asked → List ℕ

@@ -1,15 +1,18 @@
 -- How a line is walked, field by field: what the functions inside say.
 use mathlib.Core.Path.{_≡_}
-use mathlib.Core.Bool.{cond}
+use mathlib.Core.Bool.{Bool, cond}
 use mathlib.Core.List.{List, [], _∷_}
 use Prim.Native.Nat.{ℕ, _+_, _≤_}
-use lib.Dec.{leb}
+use lib.Dec.{leb, eqb}
 use lib.ListN.{length, drop}
 use Rattle.lists.specs.Searches.{every}
 use Rattle.script.specs.Numbers.{numberEnd, isNumber, valueOf}
-use Rattle.script.specs.Lines.{Asked, powersOf, fields}
+use Rattle.script.specs.Lines.{Asked, comma, powersOf, fields}
 use Rattle.script.specs.Spans.{cut, asked, Within}
 use Rattle.script.specs.declared.reading.Line.{Line}
+
+abbrev pub isComma : ℕ → Bool
+isComma b = eqb b comma
 
 -- the fields from a place on; none past the end of the line
 unfoldable pub fieldsFrom : List ℕ → ℕ → List (List ℕ)

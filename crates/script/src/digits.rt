@@ -5,12 +5,24 @@ ghost use lib.ListN.{length};
 ghost use Rattle.writer.specs.Placing.{Placed};
 ghost use Rattle.script.specs.Numbers.{decimal};
 
-// How many digits a number has.
+// How many digits a number has. Most numbers have few, and are compared first.
 fn count_of(n: u64) -> usize
     ensures { λ r. ⌜ r ≡ length (decimal n) ⌝ }
 {
-    let mut count: usize = 1;
-    let mut rest = n;
+    if n < 10 {
+        return 1;
+    }
+    if n < 100 {
+        return 2;
+    }
+    if n < 1000 {
+        return 3;
+    }
+    if n < 10000 {
+        return 4;
+    }
+    let mut count: usize = 5;
+    let mut rest = n / 10000;
     while 10 <= rest {
         count += 1;
         rest /= 10;

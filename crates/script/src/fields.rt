@@ -1,14 +1,14 @@
 // The fields of a line: where they end, and what those that are dates or numbers stand for.
 ghost use mathlib.Core.Path.{_≡_};
-ghost use mathlib.Core.Bool.{true};
+ghost use mathlib.Core.Bool.{false};
 ghost use mathlib.Core.List.{map};
-ghost use Prim.Native.Nat.{_+_, _*_, _≤_};
-ghost use lib.ListN.{length};
+ghost use Prim.Native.Nat.{_+_, _*_, _≤_, _<_};
+ghost use lib.ListN.{length, take};
 ghost use lib.Seq.{sets};
-ghost use Rattle.lists.specs.Searches.{every};
-ghost use Rattle.script.specs.Numbers.{isNumber, valueOf, dayIn};
+ghost use Rattle.lists.specs.Searches.{placeOf};
+ghost use Rattle.script.specs.Numbers.{valueOf, dayIn};
 ghost use Rattle.script.specs.Lines.{lineMost};
-ghost use Rattle.script.specs.Walking.{FieldEnd, fieldsFrom, numberIn, countIn};
+ghost use Rattle.script.specs.Walking.{isComma, FieldEnd, fieldsFrom, numberIn, countIn};
 use calendar::DAYS;
 use calendar::Day;
 use calendar::day_of;
@@ -22,6 +22,62 @@ pub(crate) fn field_end(line: &[u8], from: usize) -> usize
     ensures { λ r. ⌜ FieldEnd (now (line .entry)) from r ⌝ }
 {
     let mut i = from;
+    while i < line.len() {
+        if line[i] == b',' {
+            return i;
+        }
+        i += 1;
+    }
+    i
+}
+
+// Whether a byte is a comma. Each byte is looked at, so that many are compared at once.
+fn has_comma(s: &[u8]) -> bool
+    ensures { λ r. ⌜ (r ≡ false → length (now (s .entry)) ≤ placeOf isComma (now (s .entry))) ⌝ }
+{
+    let mut found = false;
+    let mut i: usize = 0;
+    while i < s.len() {
+        found = (s[i] == b',') | found;
+        i += 1;
+    }
+    found
+}
+
+// Where a field that may be long ends: of its bytes, sixteen are passed at once where none is a comma.
+pub(crate) fn text_end(line: &[u8], from: usize) -> usize
+    requires { ⌜ from ≤ length (now line) ⌝ }
+    ensures { λ r. ⌜ FieldEnd (now (line .entry)) from r ⌝ }
+{
+    let mut i = from;
+    while 16 <= line.len() - i {
+        let next = i + 16;
+        if has_comma(&line[i..next]) {
+            break;
+        }
+        i = next;
+    }
+    while i < line.len() {
+        if line[i] == b',' {
+            return i;
+        }
+        i += 1;
+    }
+    i
+}
+
+// Where a field that is likely a date ends: its eight bytes are passed at once where none is a comma.
+pub(crate) fn date_end(line: &[u8], from: usize) -> usize
+    requires { ⌜ from ≤ length (now line) ⌝ }
+    ensures { λ r. ⌜ FieldEnd (now (line .entry)) from r ⌝ }
+{
+    let mut i = from;
+    if 8 <= line.len() - from {
+        let next = from + 8;
+        if !has_comma(&line[from..next]) {
+            i = next;
+        }
+    }
     while i < line.len() {
         if line[i] == b',' {
             return i;
@@ -71,37 +127,35 @@ pub(crate) fn number_in(s: &[u8]) -> u32
     v
 }
 
-// How many numbers the fields from a place on are; 0 where one of them is no number.
-pub(crate) fn count_in(line: &[u8], from: usize) -> usize
-    requires { ⌜ (from ≤ length (now line)) × (length (now line) ≤ lineMost) ⌝ }
-    ensures { λ r. ⌜ (r ≡ countIn (fieldsFrom (now (line .entry)) from)) × (r * 2 + from ≤ length (now (line .entry)) + 1) ⌝ }
+// How many numbers the fields from a place on are, with the numbers put into lent places; 0 where one of them is no number.
+pub(crate) fn numbers_in(line: &[u8], from: usize, numbers: &mut [u32]) -> usize
+    requires { ⌜ (2 ≤ from) × (from ≤ length (now line)) × (length (now line) ≤ lineMost) × (256 ≤ length (now numbers)) ⌝ }
+    ensures { λ r. ⌜ (r ≡ countIn (fieldsFrom (now (line .entry)) from)) × (r * 2 + from ≤ length (now (line .entry)) + 1) × (0 < r → now (numbers .exit) ≡ sets (now (numbers .entry)) 0 (map valueOf (fieldsFrom (now (line .entry)) from))) ⌝ }
 {
     let n = line.len();
     let mut count: usize = 0;
     let mut at = from;
     while at <= n {
         let end = field_end(line, at);
-        if NUMBER_END <= number_in(&line[at..end]) {
+        let v = number_in(&line[at..end]);
+        if NUMBER_END <= v {
             return 0;
         }
+        numbers[count] = v;
         count += 1;
         at = end + 1;
     }
     count
 }
 
-// Puts the numbers from a place on into the places of the powers.
-pub(crate) fn fill(line: &[u8], from: usize, powers: &mut [u32])
-    requires { ⌜ (length (now line) ≤ lineMost) × (from ≤ length (now line)) × (every isNumber (fieldsFrom (now line) from) ≡ true) × (length (fieldsFrom (now line) from) ≤ length (now powers)) ⌝ }
-    ensures { λ r. ⌜ now (powers .exit) ≡ sets (now (powers .entry)) 0 (map valueOf (fieldsFrom (now (line .entry)) from)) ⌝ }
+// Puts the first numbers into the places of the powers.
+pub(crate) fn fill(numbers: &[u32], count: usize, powers: &mut [u32])
+    requires { ⌜ (count ≤ length (now numbers)) × (count ≤ length (now powers)) ⌝ }
+    ensures { λ r. ⌜ now (powers .exit) ≡ sets (now (powers .entry)) 0 (take count (now (numbers .entry))) ⌝ }
 {
-    let n = line.len();
     let mut k: usize = 0;
-    let mut at = from;
-    while at <= n {
-        let end = field_end(line, at);
-        powers[k] = number_in(&line[at..end]);
+    while k < count {
+        powers[k] = numbers[k];
         k += 1;
-        at = end + 1;
     }
 }

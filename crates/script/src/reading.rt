@@ -1,16 +1,19 @@
 // What a line of the script asks.
 ghost use mathlib.Core.Path.{_≡_};
-ghost use Prim.Native.Nat.{_≤_};
+ghost use mathlib.Core.List.{List};
+ghost use Prim.Native.Nat.{ℕ, _≤_};
 ghost use lib.ListN.{length};
-ghost use Rattle.script.specs.Lines.{lineMost, advanceIn, enrolIn, categoryIn, loadIn, fileIn, engagementIn, recordIn, lineOf};
+ghost use Rattle.script.specs.Lines.{lineMost, advanceIn, enrolIn, categoryIn, loadIn, fileIn, engagementIn, recordIn, lineOf, engagementOf};
 ghost use Rattle.script.specs.Spans.{start, Read};
 ghost use Rattle.script.specs.Walking.{fieldsFrom, ReadAs};
 use crate::fields::NUMBER_END;
-use crate::fields::count_in;
+use crate::fields::date_end;
 use crate::fields::day_in;
 use crate::fields::field_end;
 use crate::fields::fill;
 use crate::fields::number_in;
+use crate::fields::numbers_in;
+use crate::fields::text_end;
 use calendar::DAYS;
 
 // A line read. Texts are spans of the line: the first starts at 2 and ends before its end; the next starts one after that. The last
@@ -63,7 +66,7 @@ fn enrol(line: &[u8]) -> Line
     ensures { λ r. ⌜ ReadAs (now (line .entry)) r (enrolIn (fieldsFrom (now (line .entry)) start)) ⌝ }
 {
     let n = line.len();
-    let code = field_end(line, 2);
+    let code = text_end(line, 2);
     if n <= code {
         return Line::Unknown;
     }
@@ -104,11 +107,11 @@ fn file(line: &[u8]) -> Line
     ensures { λ r. ⌜ ReadAs (now (line .entry)) r (fileIn (fieldsFrom (now (line .entry)) start)) ⌝ }
 {
     let n = line.len();
-    let submitter = field_end(line, 2);
+    let submitter = text_end(line, 2);
     if n <= submitter {
         return Line::Unknown;
     }
-    let end = field_end(line, submitter + 1);
+    let end = text_end(line, submitter + 1);
     if end < n {
         return Line::Unknown;
     }
@@ -121,7 +124,7 @@ fn engagement(line: &[u8]) -> Line
     ensures { λ r. ⌜ ReadAs (now (line .entry)) r (engagementIn (fieldsFrom (now (line .entry)) start)) ⌝ }
 {
     let n = line.len();
-    let actor = field_end(line, 2);
+    let actor = text_end(line, 2);
     if n <= actor {
         return Line::Unknown;
     }
@@ -130,7 +133,7 @@ fn engagement(line: &[u8]) -> Line
         return Line::Unknown;
     }
     let third = category + 1;
-    let date = field_end(line, third);
+    let date = date_end(line, third);
     if n <= date {
         return Line::Unknown;
     }
@@ -154,7 +157,7 @@ fn record_of(line: &[u8]) -> Line
     ensures { λ r. ⌜ ReadAs (now (line .entry)) r (recordIn (fieldsFrom (now (line .entry)) start)) ⌝ }
 {
     let n = line.len();
-    let asker = field_end(line, 2);
+    let asker = text_end(line, 2);
     if n <= asker {
         return Line::Unknown;
     }
@@ -171,14 +174,14 @@ fn record_of(line: &[u8]) -> Line
     }
 }
 
-// `L,actor,category,date,approved,` then one power or more. The powers are counted before the first is put, so that a line that is
+// `L,actor,category,date,approved,` then one power or more. The powers are all read before the first is put, so that a line that is
 // unknown leaves their places as they are.
 fn load(line: &[u8], powers: &mut [u32; 256]) -> Line
     requires { ⌜ (start ≤ length (now line)) × (length (now line) ≤ lineMost) ⌝ }
     ensures { λ r. ⌜ Read (now (line .entry)) (now (powers .entry)) r (now (powers .exit)) (loadIn (fieldsFrom (now (line .entry)) start)) ⌝ }
 {
     let n = line.len();
-    let actor = field_end(line, 2);
+    let actor = text_end(line, 2);
     if n <= actor {
         return Line::Unknown;
     }
@@ -187,7 +190,7 @@ fn load(line: &[u8], powers: &mut [u32; 256]) -> Line
         return Line::Unknown;
     }
     let third = category + 1;
-    let date = field_end(line, third);
+    let date = date_end(line, third);
     if n <= date {
         return Line::Unknown;
     }
@@ -198,13 +201,34 @@ fn load(line: &[u8], powers: &mut [u32; 256]) -> Line
     }
     let day = day_in(&line[third..date]);
     let approved = number_in(&line[fourth..end]);
-    let count = count_in(line, end + 1);
+    let mut numbers = [0u32; 256];
+    let count = numbers_in(line, end + 1, &mut numbers);
     if (day < DAYS) & (approved < NUMBER_END) & (0 < count) {
-        fill(line, end + 1, powers);
+        fill(&numbers, count, powers);
         Line::Load(actor as u32, category as u32, day, approved, count as u32)
     } else {
         Line::Unknown
     }
+}
+
+// What a line that begins with E asks. Any other line is unknown here: `read_line` says what it asks.
+pub fn read_engagement(line: &[u8]) -> Line
+    ensures { λ r. ⌜ ((powers : List ℕ) → Read (now (line .entry)) powers r powers (engagementOf (now (line .entry)))) ⌝ }
+{
+    let n = line.len();
+    if 512 < n {
+        return Line::Unknown;
+    }
+    if n < 2 {
+        return Line::Unknown;
+    }
+    if line[1] != b',' {
+        return Line::Unknown;
+    }
+    if line[0] != b'E' {
+        return Line::Unknown;
+    }
+    engagement(line)
 }
 
 // What a line asks, with the powers of a load put into lent places, the rest of them untouched.

@@ -1,7 +1,7 @@
 // The line that answers a line of the script: its number, then `ok` and the result, or `no`, the number and the place.
 ghost use mathlib.Core.Path.{_≡_};
 ghost use mathlib.Core.List.{[], _∷_};
-ghost use Prim.Native.Nat.{_+_, _≤_};
+ghost use Prim.Native.Nat.{_+_, _≤_, _<_};
 ghost use lib.ListN.{length, take};
 ghost use lib.Seq.{sets};
 ghost use Rattle.writer.specs.Placing.{Placed};
@@ -9,6 +9,9 @@ ghost use Rattle.script.specs.Lines.{comma};
 ghost use Rattle.script.specs.Answers.{valueText, valuesText, saidText, answerLine};
 use crate::digits::put_number;
 use answers::Said;
+
+// The most bytes of an answer's line.
+pub const LINE_ROOM: usize = 64;
 
 // Puts a comma and two letters.
 fn put_word(out: &mut [u8], at: usize, a: u8, b: u8) -> usize
@@ -68,18 +71,32 @@ fn put_said(out: &mut [u8], at: usize, said: Said) -> usize
     end + 1
 }
 
-// Puts the line that answers, with its LF.
-fn put_answer(out: &mut [u8], number: u64, said: Said) -> usize
-    requires { ⌜ 64 ≤ length (now out) ⌝ }
-    ensures { λ r. ⌜ Placed (now (out .entry)) 0 (answerLine number said) (now (out .exit)) r × (r ≤ 64) ⌝ }
+// Puts the line that answers, with its LF, at a place.
+fn put_answer(out: &mut [u8], at: usize, number: u64, said: Said) -> usize
+    requires { ⌜ at + 64 ≤ length (now out) ⌝ }
+    ensures { λ r. ⌜ Placed (now (out .entry)) at (answerLine number said) (now (out .exit)) r × (r ≤ at + 64) ⌝ }
 {
-    let second = put_number(&mut *out, 0, number);
+    let second = put_number(&mut *out, at, number);
     put_said(out, second, said)
+}
+
+// Writes the line that answers at a place of a lent buffer, the rest untouched, and gives the place after it. A buffer that has no 64
+// bytes from that place on stays as it is.
+pub fn write_answer_at(number: u64, said: Said, out: &mut [u8], at: usize) -> usize
+    ensures { λ r. ⌜ (at + 64 ≤ length (now (out .entry)) → Placed (now (out .entry)) at (answerLine number said) (now (out .exit)) r × (r ≤ at + 64)) × (length (now (out .entry)) < at + 64 → (now (out .exit) ≡ now (out .entry)) × (r ≡ at)) ⌝ }
+{
+    if out.len() < LINE_ROOM {
+        return at;
+    }
+    if out.len() - LINE_ROOM < at {
+        return at;
+    }
+    put_answer(out, at, number, said)
 }
 
 // Writes the line that answers at the beginning of a lent buffer, the rest untouched, and gives its length.
 pub fn write_answer(number: u64, said: Said, out: &mut [u8; 64]) -> u32
     ensures { λ r. ⌜ (now (out .exit) ≡ sets (now (out .entry)) 0 (answerLine number said)) × (r ≡ length (answerLine number said)) × (r ≤ 64) ⌝ }
 {
-    put_answer(out, number, said) as u32
+    put_answer(out, 0, number, said) as u32
 }

@@ -2,9 +2,9 @@
 use mathlib.Core.Path.{_≡_, refl, ap, sym, _∙_, subst}
 use mathlib.Core.Bool.{Bool, true, false, not}
 use mathlib.Core.List.{List}
-use Prim.Native.Nat.{ℕ, _+_, _-_, _≤_}
-use lib.ListN.{length, take, drop, length-drop}
-use lib.Seq.{take-all, length-take-le}
+use Prim.Native.Nat.{ℕ, _+_, _-_, _≤_, min}
+use lib.ListN.{length, take, drop}
+use lib.Seq.{length-take-le}
 use native.Mathlib.Omega.{arith}
 use Rattle.ledger.specs.Ledger.{Ledger}
 use Rattle.ledger.specs.Call as Call
@@ -14,34 +14,24 @@ use Rattle.answers.specs.Values.{saidEngaged, saidShown, saidRefused}
 use Rattle.register.specs.View.{Register, held}
 use Rattle.register.specs.Written.{does}
 use Rattle.turns.specs.Told.{Told, told, tells}
+use borrow.Author.Tests.{not-true, not-false}
+use Rattle.lists.proofs.Parts.{rest-all}
 use Rattle.lists.proofs.Tests.{true-false}
 use Rattle.script.specs.Lines.{Asked, advance, enrolActor, enrolCategory, load, file, engagement, recordOf, unknown}
 use Rattle.script.specs.Spans.{cut, asked, Within, Read}
 use Rattle.script.specs.declared.reading.Line.{Line}
 use Rattle.script.specs.declared.reading.Line.the-variants.{Advance, EnrolActor, EnrolCategory, Load, File, Engagement, RecordOf, Unknown}
 use Rattle.session.specs.declared.asking.Asking.{Asking}
-use Rattle.session.specs.Lines.{noCall, onlyAsks, askStep, lineStep}
-
--- a part that goes to the end of the line is all of its rest
-rest-all : (at : ℕ) (line : List ℕ) → take (length line - at) (drop at line) ≡ drop at line
-rest-all at line = take-all (length line - at) (drop at line) (rw length-drop (omega arith))
+use Rattle.session.specs.Lines.{noCall, onlyAsks, askStep, engagedBy, lineStep}
 
 -- the first powers are so many
 pub counted : (n : ℕ) (powers : List ℕ) → length powers ≡ 256 → n ≤ 256 → n ≡ length (take n powers)
 counted n powers e h = sym (length-take-le n powers (rw e h))
 
-off : (b : Bool) → not b ≡ true → b ≡ false
-off true e = sym e
-off false e = refl
-
-on : (b : Bool) → not b ≡ false → true ≡ b
-on true e = refl
-on false e = e
-
 -- a file that can be read
 pub readable-line : (r : Register) (readable : Bool) (body : List ℕ) (a : Asked) → not readable ≡ false →
     lineStep r true body a ≡ lineStep r readable body a
-readable-line r readable body a e = ap (λ b. lineStep r b body a) (on readable e)
+readable-line r readable body a e = ap (λ b. lineStep r b body a) (sym (not-false readable e))
 
 module _ (r : Register) (readable : Bool) (body line powers : List ℕ) where
   pub unknown-line : tells r (saidRefused noCall) ≡ lineStep r readable body (asked line Unknown powers)
@@ -78,12 +68,20 @@ module _ (r : Register) (readable : Bool) (body line powers : List ℕ) where
   pub unreadable-line : (submitter : ℕ) → not readable ≡ true →
       lineStep r readable body (asked line Unknown powers) ≡ lineStep r readable body (asked line (File submitter) powers)
   unfolding asked lineStep
-  unreadable-line submitter e = rw (off readable e) refl
+  unreadable-line submitter e = rw (not-true readable e) refl
 
   -- what is answered to a line by what was read of it is what is answered to the line
   pub answered : {read form : Line} {before : List ℕ} {a : Asked} {x : Told} → Read line before read powers a → read ≡ form →
       x ≡ lineStep r readable body (asked line form powers) → x ≡ lineStep r readable body a
   answered w e s = s ∙ ap (lineStep r readable body) (ap (λ y. asked line y powers) (sym e) ∙ w .says)
+
+-- what is said of an engagement by spans that are cut off at the line's end
+pub engaged-cut : (l : Ledger) (line : List ℕ) (actor category day s first second end last : ℕ) → last ≡ min category (length line) →
+    end ≡ min actor last → first ≡ min 2 end → second ≡ min (end + 1) last →
+    saidEngaged (askEngagement l (take (end - first) (drop first line)) (take (last - second) (drop second line)) day s)
+    ≡ engagedBy l line actor category day s
+unfolding engagedBy
+engaged-cut l line actor category day s first second end last e f g h = rw (h, g, f, e)
 
 -- the two parts of what is told of a line that may only ask
 pub asks-as : {x : Asking} {a b : Bool} {y z : Said} → x ≡ record { asks = a; said = y } → (a ≡ b) × (y ≡ z) → (x .asks ≡ b) × (x .said ≡ z)
@@ -126,6 +124,17 @@ module _ (l : Ledger) (line powers : List ℕ) where
       (saidEngaged (askEngagement l (cut line 2 actor) (cut line (actor + 1) category) day s) ≡ askStep l (asked line (Engagement actor category day s) powers))
   unfolding asked onlyAsks askStep
   asks-engagement actor category day s = (refl, refl)
+
+  -- spans that lie in the line are not cut off
+  pub engaged-within : (actor category day s : ℕ) → Within (length line) (Engagement actor category day s) →
+      engagedBy l line actor category day s ≡ askStep l (asked line (Engagement actor category day s) powers)
+  unfolding engagedBy
+  engaged-within actor category day s w =
+      let e : min category (length line) ≡ category = omega (arith, w .2) in
+      let f : min actor category ≡ actor = omega (arith, w .1) in
+      let g : min 2 actor ≡ 2 = omega (arith, w .0) in
+      let h : min (actor + 1) category ≡ actor + 1 = omega (arith, w .1) in
+      rw (e, f, g, h) (asks-engagement actor category day s .1)
 
   pub asks-record : (asker id : ℕ) →
       (true ≡ onlyAsks (asked line (RecordOf asker id) powers)) × (saidShown (askRecord l (cut line 2 asker) id) ≡ askStep l (asked line (RecordOf asker id) powers))

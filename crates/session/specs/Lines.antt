@@ -1,7 +1,8 @@
 -- WHAT A LINE OF THE SCRIPT DOES to the register, and what it says (document 01, "The script program"): its call, or 11.
 use mathlib.Core.Bool.{Bool, true, false, cond}
 use mathlib.Core.List.{List}
-use Prim.Native.Nat.{ℕ}
+use Prim.Native.Nat.{ℕ, _+_, min}
+use lib.ListN.{length}
 use Rattle.ledger.specs.Ledger.{Ledger}
 use Rattle.ledger.specs.Call as Call
 use Rattle.ledger.specs.Asking.{askEngagement, askRecord}
@@ -10,6 +11,7 @@ use Rattle.answers.specs.declared.Said.{Said}
 use Rattle.register.specs.View.{Register, held}
 use Rattle.register.specs.Written.{does}
 use Rattle.turns.specs.Told.{Told, told, tells}
+use Rattle.script.specs.Spans.{cut}
 use Rattle.script.specs.Lines.{Asked, advance, enrolActor, enrolCategory, load, file, engagement, recordOf, unknown}
 
 -- "a script line over its length or of no known form .., or a file that can't be read"
@@ -37,6 +39,13 @@ askStep l (file submitter name) = saidRefused noCall
 askStep l (engagement actor category day s) = saidEngaged (askEngagement l actor category day s)
 askStep l (recordOf asker id) = saidShown (askRecord l asker id)
 askStep l unknown = saidRefused noCall
+
+-- what is said of an engagement by spans of a line, of which only what lies in it, one span after the other, counts
+unfoldable pub engagedBy : Ledger → List ℕ → ℕ → ℕ → ℕ → ℕ → Said
+engagedBy l line actor category day s =
+    let last = min category (length line) in
+    let end = min actor last in
+    saidEngaged (askEngagement l (cut line (min 2 end) end) (cut line (min (end + 1) last) last) day s)
 
 -- `readable`: whether the file that the line names can be read; `body`: its bytes
 unfoldable pub lineStep : Register → Bool → List ℕ → Asked → Told

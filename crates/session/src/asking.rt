@@ -2,14 +2,14 @@
 ghost use mathlib.Core.Path.{_≡_};
 ghost use mathlib.Core.Bool.{Bool};
 ghost use mathlib.Core.List.{List};
-ghost use Prim.Native.Nat.{ℕ};
+ghost use Prim.Native.Nat.{ℕ, min};
 ghost use lib.ListN.{length};
 ghost use lib.Seq.{sets};
 ghost use Rattle.answers.specs.Values.{saidRefused};
 ghost use Rattle.register.specs.View.{view};
 ghost use Rattle.script.specs.Spans.{asked, Within};
 ghost use Rattle.script.specs.Lines.{lineOf, powersOf};
-ghost use Rattle.session.specs.Lines.{onlyAsks, askStep};
+ghost use Rattle.session.specs.Lines.{onlyAsks, askStep, engagedBy};
 use answers::Said;
 use answers::of_engaged;
 use answers::of_shown;
@@ -25,6 +25,46 @@ const NO_CALL: u32 = 11;
 pub struct Asking {
     pub asks: bool,
     pub said: Said,
+}
+
+// A place, or the end of what it should lie in.
+fn within(place: usize, end: usize) -> usize
+    ensures { λ r. ⌜ r ≡ min place end ⌝ }
+{
+    if place < end { place } else { end }
+}
+
+// What a line says that asks for an engagement, by what was read of it. Of spans that don't lie in the line one after the other, what
+// doesn't is left out.
+pub fn engaged(
+    head: Head,
+    keys: &[u32; 256],
+    marks: &[[u8; 4]; 256],
+    rows: &[[u16; 50]; 256],
+    loads: &[[u16; 50]; 64],
+    line: &[u8],
+    actor: u32,
+    category: u32,
+    day: u32,
+    step: u32,
+) -> Said
+    ensures { λ r. ⌜ r ≡ engagedBy (view head (record { keys = now (keys .entry); marks = now (marks .entry); rows = now (rows .entry) }) (now (loads .entry))) (now (line .entry)) actor category day step ⌝ }
+{
+    let last = within(category as usize, line.len());
+    let end = within(actor as usize, last);
+    let first = within(2, end);
+    let second = within(end + 1, last);
+    let answer = head.engagement(
+        keys,
+        marks,
+        rows,
+        loads,
+        &line[first..end],
+        &line[second..last],
+        day,
+        step,
+    );
+    of_engaged(answer)
 }
 
 // `E,actor,category,date,step`
@@ -43,21 +83,18 @@ pub(crate) fn engagement(
     requires { ⌜ Within (length (now line)) (Line.Engagement actor category day step) ⌝ }
     ensures { λ r. ⌜ ((powers : List ℕ) → r ≡ askStep (view head (record { keys = now (keys .entry); marks = now (marks .entry); rows = now (rows .entry) }) (now (loads .entry))) (asked (now (line .entry)) (Line.Engagement actor category day step) powers)) ⌝ }
 {
-    let first: usize = 2;
-    let end = actor as usize;
-    let second = end + 1;
-    let last = category as usize;
-    let answer = head.engagement(
+    engaged(
+        head,
         keys,
         marks,
         rows,
         loads,
-        &line[first..end],
-        &line[second..last],
+        line,
+        actor,
+        category,
         day,
         step,
-    );
-    of_engaged(answer)
+    )
 }
 
 // `R,asker,id`

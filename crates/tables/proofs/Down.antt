@@ -8,7 +8,8 @@ use native.Mathlib.Decide.{ℕ-discrete}
 use lib.ListN.{length, getD}
 use Rattle.lists.specs.Searches.{some, placeOf}
 use Rattle.lists.specs.Sums.{sumTo, sumOver}
-use Rattle.tables.specs.Tables.{downFrom, lastBelow}
+use Rattle.tables.specs.Tables.{downFrom}
+use Rattle.tables.specs.Passing.{lastBelow}
 use Rattle.tables.specs.declared.loads.Found.{Found}
 use Rattle.tables.specs.declared.loads.Found.the-variants.{At, Nothing}
 

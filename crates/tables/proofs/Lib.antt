@@ -6,3 +6,4 @@ pub mod Down
 pub mod Fours
 pub mod Listing
 pub mod LoadTable
+pub mod Keys

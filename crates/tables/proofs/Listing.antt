@@ -8,7 +8,7 @@ use native.Mathlib.Numerals.{add-one}
 use native.Mathlib.Decide.{ℕ-discrete}
 use lib.ListN.{length, getD, set}
 use lib.Seq.{getD-set-same, getD-set-other}
-use Rattle.tables.specs.Tables.{reached, Listed}
+use Rattle.tables.specs.Passing.{reached, Listed}
 
 -- ---- from a number to a higher one, step by step
 

@@ -13,7 +13,8 @@ use borrow.Author.Tests.{lt-ltb, le-ltb, eqb-true, eq-eqb, ne-eqb}
 use Rattle.lists.proofs.Tests.{by-test, both-true}
 use Rattle.notification.specs.Forms.{places}
 use Rattle.ledger.specs.Ledger.{Load, loadPlaces, loadIs, hasLoad, loaded, approved}
-use Rattle.tables.specs.Tables.{downFrom, lastBelow, loadNumber, loadIn, loadsIn, lastLoad, loadRow, loadMost}
+use Rattle.tables.specs.Tables.{downFrom, loadNumber, loadIn, loadsIn}
+use Rattle.tables.specs.Passing.{lastBelow, lastLoad, loadRow, loadMost}
 use Rattle.tables.specs.declared.loads.Loads.{Loads}
 use Rattle.tables.specs.declared.loads.Found.{Found}
 use Rattle.tables.specs.declared.loads.Found.the-variants.{At, Nothing}

@@ -1,50 +1,21 @@
 -- What the tables hold: the entries below their counts, loads and records with the newest first. A count past the places
 -- counts as full.
-use mathlib.Core.Path.{_≡_}
-use mathlib.Core.Bool.{Bool, true, false, cond, not, _&&_, _||_}
-use mathlib.Core.List.{List, [], _∷_, _++_, map}
-use Prim.Native.Nat.{ℕ, zero, suc, _+_, _-_, _*_, _/_, _%_, _<_, _≤_, min}
-use lib.Dec.{eqb, ltb}
-use lib.ListN.{getD, take, replicate}
-use Rattle.notification.specs.Forms.{categoryText, places}
+use mathlib.Core.List.{List, [], _∷_, map}
+use Prim.Native.Nat.{ℕ, zero, suc, _+_, _*_, _/_, _%_, min}
+use lib.ListN.{getD, take}
+use Rattle.notification.specs.Forms.{categoryText}
 use Rattle.ledger.specs.declared.Actor.{Actor}
 use Rattle.ledger.specs.Ledger.{Load, Key, Rec, actorPlaces, categoryPlaces, loadPlaces, recordPlaces}
 use Rattle.tables.specs.declared.actors.Actors.{Actors}
 use Rattle.tables.specs.declared.categories.Category.{Category}
 use Rattle.tables.specs.declared.categories.Categories.{Categories}
 use Rattle.tables.specs.declared.loads.Loads.{Loads}
-use Rattle.tables.specs.declared.loads.Found.{Found}
-use Rattle.tables.specs.declared.loads.Found.the-variants.{At, Nothing}
 use Rattle.tables.specs.declared.records.Records.{Records}
 
 -- what stands at the numbers below n, the last first
 abbrev pub downFrom : {A : Type 0} → (ℕ → A) → ℕ → List A
 downFrom f zero = []
 downFrom f (suc n) = f n ∷ downFrom f n
-
--- the last number below n that passes a test
-unfoldable pub lastBelow : (ℕ → Bool) → ℕ → Found
-lastBelow p zero = Nothing
-lastBelow p (suc n) = cond (p n) (At n) (lastBelow p n)
-
--- none of four numbers in a row passes a test
-abbrev pub noneOfFour : (ℕ → Bool) → ℕ → Bool
-noneOfFour p i = not (p i || p (i + 1) || (p (i + 2) || p (i + 3)))
-
--- ---- a list of places, the lowest first
-
--- how far the first j places of a list go
-abbrev pub reached : List ℕ → ℕ → ℕ
-reached places zero = 0
-reached places (suc j) = suc (getD places j 0)
-
--- the numbers below n that are not among the first places of a list all fail a test
-pub record Listed (test : ℕ → Bool) (n count : ℕ) (places : List ℕ) : Type 0 where
-  pub few : count ≤ n
-  pub up : (j : ℕ) → j < count → reached places j ≤ getD places j 0
-  pub below : (j : ℕ) → j < count → getD places j 0 < n
-  pub between : (j i : ℕ) → j < count → reached places j ≤ i → i < getD places j 0 → test i ≡ false
-  pub after : (i : ℕ) → reached places count ≤ i → i < n → test i ≡ false
 
 -- ACTORS AND CATEGORIES
 
@@ -73,18 +44,6 @@ loadIn x rows i =
 unfoldable pub loadsIn : Loads → List (List ℕ) → List Load
 loadsIn x rows = downFrom (loadIn x rows) (min (x .count) loadPlaces)
 
--- the newest load of a number, its approved power and its row
-unfoldable pub lastLoad : Loads → ℕ → Found
-lastLoad x number = lastBelow (λ i. eqb (getD (x .keys) i 0) number) (min (x .count) loadPlaces)
-
-unfoldable pub loadRow : List (List ℕ) → Found → List ℕ
-loadRow rows (At i) = cond (ltb i loadPlaces) (getD rows i []) (replicate places 0)
-loadRow rows Nothing = replicate places 0
-
-unfoldable pub loadMost : Loads → Found → ℕ
-loadMost x (At i) = cond (ltb i loadPlaces) (getD (x .approved) i 0) 0
-loadMost x Nothing = 0
-
 -- RECORDS
 
 -- ceder, acquirer, category and day of a record as one number
@@ -93,14 +52,6 @@ keyNumber ceder acquirer category day = day * 256 + category * 64 + ceder * 8 + 
 
 abbrev pub keyIn : ℕ → Key
 keyIn n = record { ceder = n / 8 % 8; acquirer = n % 8; category = n / 64 % 4; day = n / 256 }
-
--- record i is of the category and day that a market's number stands for
-abbrev pub inMarket : List ℕ → ℕ → ℕ → Bool
-inMarket keys market i = eqb (getD keys i 0 / 64) market
-
--- record i is under the key of a number
-abbrev pub isUnder : List ℕ → ℕ → ℕ → Bool
-isUnder keys number i = eqb (getD keys i 0) number
 
 -- the columns that the caller lends: keys, marks (submitter, from-step, until-step), rows of powers; and the loads' rows
 pub record Columns : Type 0 where

@@ -8,7 +8,8 @@ ghost use lib.ListN.{length, getD, set};
 ghost use Rattle.lists.specs.Searches.{every};
 ghost use Rattle.notification.specs.Forms.{inPlaces};
 ghost use Rattle.tables.specs.More.{moreLoads};
-ghost use Rattle.tables.specs.Tables.{noneOfFour, lastBelow, loadNumber, loadsIn, lastLoad, loadMost, loadRow};
+ghost use Rattle.tables.specs.Tables.{loadNumber, loadsIn};
+ghost use Rattle.tables.specs.Passing.{bitsFrom, lastBelow, lastLoad, loadRow};
 use crate::actors::least;
 
 // The places for loads.
@@ -36,10 +37,10 @@ pub fn load_number(actor: u32, category: u32, day: u32) -> u32
     day * 32 + category * 8 + actor
 }
 
-// Whether a number differs from four in a row, all looked at at once.
+// Whether none of four in a row is this number. Each is looked at, so that the four are compared at once.
 fn none_of_four(keys: &[u32; 64], i: u32, number: u32) -> bool
     requires { ⌜ i + 4 ≤ 64 ⌝ }
-    ensures { λ r. ⌜ r ≡ noneOfFour (λ k. eqb (getD (now (keys .entry)) k 0) number) i ⌝ }
+    ensures { λ r. ⌜ (r ≡ true → bitsFrom (λ k. eqb (getD (now (keys .entry)) k 0) number) i 4 ≡ 0) ⌝ }
 {
     let at = i as usize;
     !(((keys[at] == number) | (keys[at + 1] == number))
@@ -49,7 +50,7 @@ fn none_of_four(keys: &[u32; 64], i: u32, number: u32) -> bool
 // Whether there are four numbers below i, and none of the last four is this one.
 fn passes_four(keys: &[u32; 64], i: u32, number: u32) -> bool
     requires { ⌜ i ≤ 64 ⌝ }
-    ensures { λ r. ⌜ (r ≡ true → (4 ≤ i) × (noneOfFour (λ k. eqb (getD (now (keys .entry)) k 0) number) (i - 4) ≡ true)) ⌝ }
+    ensures { λ r. ⌜ (r ≡ true → (4 ≤ i) × (bitsFrom (λ k. eqb (getD (now (keys .entry)) k 0) number) (i - 4) 4 ≡ 0)) ⌝ }
 {
     if i < 4 {
         return false;
@@ -82,22 +83,6 @@ impl Loads {
     {
         let n = least(self.count, LOADS);
         last_of(&self.keys, n, number)
-    }
-
-    // The approved power of a load that was found, or 0.
-    pub fn approved_at(self, at: Found) -> u32
-        ensures { λ r. ⌜ r ≡ loadMost self at ⌝ }
-    {
-        match at {
-            Found::At(i) => {
-                if i < LOADS {
-                    let approved = self.approved;
-                    return approved[i as usize] as u32;
-                }
-                0
-            }
-            Found::Nothing => 0,
-        }
     }
 
     // One load more, where there is a place.

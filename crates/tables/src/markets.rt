@@ -1,38 +1,49 @@
 // The records of one category and day among all: where the next of them stands.
 ghost use mathlib.Core.Path.{_≡_};
-ghost use mathlib.Core.Bool.{true};
-ghost use Prim.Native.Nat.{ℕ, _≤_, _+_, _-_};
+ghost use mathlib.Core.Bool.{cond};
+ghost use Prim.Native.Nat.{ℕ, _≤_, _+_, _-_, _*_};
 ghost use Rattle.lists.specs.Searches.{firstFrom};
-ghost use Rattle.tables.specs.Tables.{noneOfFour, inMarket};
+ghost use Rattle.tables.specs.Passing.{bitsFrom, inMarket};
+use crate::actors::least;
 
-// Whether none of four records in a row is of a category and day, all looked at at once.
-fn none_of_four(keys: &[u32; 256], i: u32, market: u32) -> bool
+// A bit of a weight, set where a test passes.
+fn bit(passes: bool, weight: u32) -> u32
+    ensures { λ r. ⌜ (r ≡ weight * cond passes 1 0) × (r ≤ weight) ⌝ }
+{
+    if passes { weight } else { 0 }
+}
+
+// Which of four records in a row are of a category and day, as bits. Each is looked at, so that the four are compared at once.
+fn bits_of_four(keys: &[u32; 256], i: u32, market: u32) -> u32
     requires { ⌜ i + 4 ≤ 256 ⌝ }
-    ensures { λ r. ⌜ r ≡ noneOfFour (inMarket (now (keys .entry)) market) i ⌝ }
+    ensures { λ r. ⌜ r ≡ bitsFrom (inMarket (now (keys .entry)) market) i 4 ⌝ }
 {
     let at = i as usize;
-    !(((keys[at] / 64 == market) | (keys[at + 1] / 64 == market))
-        | ((keys[at + 2] / 64 == market) | (keys[at + 3] / 64 == market)))
+    bit(keys[at] / 64 == market, 1)
+        + bit(keys[at + 1] / 64 == market, 2)
+        + bit(keys[at + 2] / 64 == market, 4)
+        + bit(keys[at + 3] / 64 == market, 8)
 }
 
-// Whether there are four records from i on, and none of them is of a category and day.
-fn passes_four(keys: &[u32; 256], i: u32, n: u32, market: u32) -> bool
-    requires { ⌜ (i ≤ n) × (n ≤ 256) ⌝ }
-    ensures { λ r. ⌜ (r ≡ true → (i + 4 ≤ n) × (noneOfFour (inMarket (now (keys .entry)) market) i ≡ true)) ⌝ }
-{
-    if n < i + 4 {
-        return false;
-    }
-    none_of_four(keys, i, market)
-}
-
-// The place of the next of the first n records, from i on, that is of a category and day; n where there is none.
+// The place of the next of the first n records, from i on, that is of a category and day; n where there is none. Both parties
+// often file in turn, so record i is looked at first.
 pub fn next_of(keys: &[u32; 256], i: u32, n: u32, market: u32) -> u32
     requires { ⌜ (i ≤ n) × (n ≤ 256) ⌝ }
     ensures { λ r. ⌜ r ≡ firstFrom (inMarket (now (keys .entry)) market) i (n - i) ⌝ }
 {
-    let mut k = i;
-    while passes_four(keys, k, n, market) {
+    if n <= i {
+        return n;
+    }
+    if keys[i as usize] / 64 == market {
+        return i;
+    }
+    let mut k = i + 1;
+    let end = n - least(n, 3);
+    while k < end {
+        let four = bits_of_four(keys, k, market);
+        if four != 0 {
+            return k + u32::trailing_zeros(four);
+        }
         k += 4;
     }
     while k < n {

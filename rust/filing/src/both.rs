@@ -11,13 +11,13 @@ pub const CATEGORIES: [&[u8; 6]; 2] = [b"13120\0", b"30090C"];
 pub struct Random(pub u64);
 
 impl Random {
-    fn below(&mut self, n: usize) -> usize {
+    pub fn below(&mut self, n: usize) -> usize {
         self.0 = self.0.wrapping_mul(6364136223846793005).wrapping_add(1442695040888963407);
         (((self.0 >> 32) * n as u64) >> 32) as usize
     }
 
     /// A key of two of the eight actors on one of the four days, with powers that differ from step to step.
-    fn notification(&mut self) -> Notification {
+    pub fn notification(&mut self) -> Notification {
         let (ceder, by) = (self.below(8), 1 + self.below(7));
         let (ceder, acquirer) = (code(ceder), code((ceder + by) % 8));
         let (category, day) = (*CATEGORIES[self.below(2)], day(self.below(4)));

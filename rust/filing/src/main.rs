@@ -1,7 +1,8 @@
 //! The proved register beside the peer's: the same filings and engagement calls in one run, in ns, with the ratio.
-//! `filing count CASE SIDE` only calls, for callgrind, and prints how often.
+//! `filing count CASE SIDE` only calls, for callgrind, and prints how often. `filing scripts PROVED PEER` times the script programs.
 
 mod both;
+mod scripts;
 
 use std::hint::black_box;
 use std::time::Instant;
@@ -153,6 +154,7 @@ fn main() {
     let args: Vec<String> = std::env::args().skip(1).collect();
     match args.iter().map(String::as_str).collect::<Vec<_>>()[..] {
         ["count", case, side] => count(case, side),
+        ["scripts", proved, peer] => scripts::all(proved, peer),
         _ => all(),
     }
 }

@@ -5,7 +5,7 @@ use lib.ListN.{getD}
 use lib.Dec.{leb}
 use borrow.Author.Tests.{leb-true}
 use Rattle.lists.proofs.Tests.{and-left, and-right}
-use Rattle.judging.proofs.Netting.{alike, differs-true, differs-false, turned-same, turned-past, turned-gained, turned-given}
+use Rattle.judging.proofs.Netting.{alike, differs, turned-same, turned-past, turned-whole}
 use borrow.Author.Needs.{needs}
 use Rattle.judging.proofs.nets.turn.Statement.{statement}
 use Rattle.judging.proofs.nets.turn.Tie as tie
@@ -33,43 +33,26 @@ returns-2 c =
     let till = c .before .byte2 .ensures .0 in
     turned-past (a .net .now) (a .gains) (a .gives) (a .t4) (getD (a .rows .now) (a .i) []) (a .first) (a .until) (c .before .before .before .before .pre .2 .fifty) (omega arith)
 
-gain-requires : tie.Need-gain-requires
-gain-requires c κs = search needs
+move-row-requires : tie.Need-move-row-requires
+move-row-requires c κs = search needs
 
 returns-3 : tie.Need-returns-3
 returns-3 c =
-    let a = c .before .before .before .before .before .before .before .before .args in
-    let from = c .before .before .before .before .before .before .byte .ensures .0 in
-    let till = c .before .before .before .before .before .byte2 .ensures .0 in
-    let f = c .before .before .before .before .before .before .byte .result in
-    let t = c .before .before .before .before .before .byte2 .result in
-    let span = c .before .before .before .if3 .taken in
-    let one = c .before .before .if4 .taken in
-    turned-gained (a .net .now) (a .gains) (a .gives) (a .t4) (getD (a .rows .now) (a .i) []) (a .first) (a .until)
-    (omega (arith, leb-true f (a .first) (and-left (leb f (a .first)) (leb (a .until) t) span))) (omega (arith, leb-true (a .until) t (and-right (leb f (a .first)) (leb (a .until) t) span))) _ (c .before .before .before .before .before .before .before .before .pre .1)
-    one (differs-true (a .gains) (a .gives) (c .before .before .before .before .before .before .before .if1 .left) one) (c .gain .ensures)
-
-give-requires : tie.Need-give-requires
-give-requires c κs = search needs
-
-returns-4 : tie.Need-returns-4
-returns-4 c =
-    let a = c .before .before .before .before .before .before .before .before .args in
-    let from = c .before .before .before .before .before .before .byte .ensures .0 in
-    let till = c .before .before .before .before .before .byte2 .ensures .0 in
-    let f = c .before .before .before .before .before .before .byte .result in
-    let t = c .before .before .before .before .before .byte2 .result in
-    let span = c .before .before .before .if3 .taken in
-    let one = c .before .before .if4 .left in
-    turned-given (a .net .now) (a .gains) (a .gives) (a .t4) (getD (a .rows .now) (a .i) []) (a .first) (a .until)
-    (omega (arith, leb-true f (a .first) (and-left (leb f (a .first)) (leb (a .until) t) span))) (omega (arith, leb-true (a .until) t (and-right (leb f (a .first)) (leb (a .until) t) span))) _ (c .before .before .before .before .before .before .before .before .pre .1)
-    one (differs-false (a .gains) (a .gives) (c .before .before .before .before .before .before .before .if1 .left) one) (c .give .ensures)
+    let a = c .before .before .before .before .before .before .before .args in
+    let from = c .before .before .before .before .before .byte .ensures .0 in
+    let till = c .before .before .before .before .byte2 .ensures .0 in
+    let f = c .before .before .before .before .before .byte .result in
+    let t = c .before .before .before .before .byte2 .result in
+    let span = c .before .before .if3 .taken in
+    turned-whole (a .net .now) (a .gains) (a .gives) (a .t4) (getD (a .rows .now) (a .i) []) (a .first) (a .until)
+    (omega (arith, leb-true f (a .first) (and-left (leb f (a .first)) (leb (a .until) t) span))) (omega (arith, leb-true (a .until) t (and-right (leb f (a .first)) (leb (a .until) t) span))) _ (c .before .before .before .before .before .before .before .pre .1)
+    (differs (a .gains) (a .gives) (c .before .before .before .before .before .before .if1 .left)) (c .move-row .ensures)
 
 turn-in-span-requires : tie.Need-turn-in-span-requires
 turn-in-span-requires c κs = search needs
 
-returns-5 : tie.Need-returns-5
-returns-5 c = search needs
+returns-4 : tie.Need-returns-4
+returns-4 c = search needs
 
 pub turn-spec : {M : Type 1} → statement M
 turn-spec =
@@ -81,9 +64,7 @@ turn-spec =
     array-read-byte-2
     byte-requires-2
     returns-2
-    gain-requires
+    move-row-requires
     returns-3
-    give-requires
-    returns-4
     turn-in-span-requires
-    returns-5)
+    returns-4)

@@ -2,7 +2,7 @@
 use mathlib.Core.Bool.{_||_}
 use lib.Dec.{eqb}
 use Rattle.ledger.specs.Statuses.{validated, updated}
-use Rattle.judging.proofs.Keys.{not-true, not-false}
+use borrow.Author.Tests.{not-true, not-false}
 use Rattle.judging.proofs.passing.is_concerned.Statement.{statement}
 use Rattle.judging.proofs.passing.is_concerned.Tie as tie
 

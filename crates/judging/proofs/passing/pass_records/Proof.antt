@@ -3,12 +3,12 @@ use mathlib.Core.Path.{_≡_, subst, _∙_}
 use Prim.Native.Nat.{_-_, _/_, _%_, _≤_, _<_}
 use native.Mathlib.Omega.{arith}
 use lib.ListN.{length}
-use Rattle.tables.specs.Tables.{Columns, inMarket, isUnder, Listed}
+use Rattle.tables.specs.Tables.{Columns}
+use Rattle.tables.specs.Passing.{inMarket, isUnder, Listed}
 use Rattle.tables.proofs.Fours.{next-is}
 use Rattle.tables.proofs.Listing.{listed-none}
 use Rattle.judging.specs.Nets.{Netting}
 use Rattle.judging.proofs.Netting.{netting-none, netting-between, netting-through, listed-through}
-use borrow.Author.Needs.{needs}
 use Rattle.judging.proofs.passing.pass_records.Statement.{statement}
 use Rattle.judging.proofs.passing.pass_records.Tie as tie
 

@@ -1,9 +1,10 @@
--- While the steps passed all fit, each of them fits.
+-- While none of the steps passed failed, each of them fits.
 use mathlib.Core.Path.{_≡_, ap, _∙_}
-use mathlib.Core.Bool.{true}
+use mathlib.Core.Bool.{true, false}
 use Prim.Native.Nat.{ℕ, _-_, _≤_, _<_}
 use native.Mathlib.Omega.{arith}
 use lib.ListN.{getD}
+use borrow.Author.Tests.{not-true}
 use Rattle.judging.specs.Steps.{stepFits}
 use Rattle.judging.proofs.Verdicts.{fit-more}
 use borrow.Author.Needs.{needs}
@@ -11,12 +12,12 @@ use Rattle.judging.proofs.steps.all_fit.Statement.{statement}
 use Rattle.judging.proofs.steps.all_fit.Tie as tie
 
 abbrev Inv-loop : tie.InvT-loop
-Inv-loop ceder acquirer ps ceders acquirers first until good₀ s₀ good s =
+Inv-loop ceder acquirer ps ceders acquirers first until failed₀ s₀ failed s =
     (first ≤ s)
-    × (good ≡ true → (j : ℕ) → first ≤ j → j < s → stepFits (getD ceder j 0) (getD acquirer j 0) (getD ps j 0) ceders acquirers ≡ true)
+    × (failed ≡ false → (j : ℕ) → first ≤ j → j < s → stepFits (getD ceder j 0) (getD acquirer j 0) (getD ps j 0) ceders acquirers ≡ true)
 
 abbrev μ-loop : tie.MeasureT-loop
-μ-loop ceder acquirer ps ceders acquirers first until good₀ s₀ good s = until - s
+μ-loop ceder acquirer ps ceders acquirers first until failed₀ s₀ failed s = until - s
 
 loop-holds : tie.Need-loop-holds Inv-loop μ-loop
 loop-holds c = (omega arith, (λ e j h l. absurd (omega arith)))
@@ -63,13 +64,13 @@ loop-again c =
       omega arith,
       fit-more
           (λ j. stepFits (getD (a .ceder .now) j 0) (getD (a .acquirer .now) j 0) (getD (a .ps .now) j 0) (a .ceders) (a .acquirers))
-          (a .first) (b .s) _ (b .good)
+          (a .first) (b .s) _ (b .failed)
           (c .fits2 .ensures ∙ ap (λ p. stepFits (getD (a .ceder .now) (b .s) 0) (getD (a .acquirer .now) (b .s) 0) p (a .ceders) (a .acquirers)) (c .before .wide .ensures .0))
           (b .inv .1),
     )
 
 returns : tie.Need-returns Inv-loop μ-loop
-returns c = λ e s h l. c .before .loop .inv .1 e s h (omega arith)
+returns c = λ e s h l. c .before .loop .inv .1 (not-true _ e) s h (omega arith)
 
 pub all-fit-spec : {M : Type 1} → statement M
 all-fit-spec =

@@ -2,7 +2,8 @@
 use borrow.Author.Needs.{needs}
 use mathlib.Core.Path.{sym, ap, _∙_}
 use Rattle.notification.specs.Forms.{isCategory}
-use Rattle.reader.proofs.KeyParts.{rest-all, read-short, read-long, read-wrong, read-no-day, read-key}
+use Rattle.lists.proofs.Parts.{rest-all}
+use Rattle.reader.proofs.KeyParts.{read-short, read-long, read-wrong, read-no-day, read-key}
 use Rattle.reader.proofs.keys.key_in.Statement.{statement}
 use Rattle.reader.proofs.keys.key_in.Tie as tie
 

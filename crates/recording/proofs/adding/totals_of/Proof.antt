@@ -3,7 +3,8 @@ use mathlib.Core.Path.{_≡_, refl, _∙_, ap, sym}
 use Prim.Native.Nat.{_≤_, _-_, _*_}
 use native.Mathlib.Omega.{arith}
 use Rattle.lists.specs.Sums.{sumTo}
-use Rattle.tables.specs.Tables.{Columns, inMarket}
+use Rattle.tables.specs.Tables.{Columns}
+use Rattle.tables.specs.Passing.{inMarket}
 use Rattle.tables.proofs.Fours.{next-is}
 use Rattle.recording.specs.Recording.{gainedAt, givenAt}
 use Rattle.recording.proofs.Turns.{gained-through, given-through, gained-here, given-here}

@@ -3,7 +3,8 @@ use mathlib.Core.Path.{_≡_, subst}
 use Prim.Native.Nat.{ℕ, _≤_, _<_, _-_}
 use native.Mathlib.Omega.{arith}
 use lib.ListN.{length}
-use Rattle.tables.specs.Tables.{Columns, isUnder, reached, Listed}
+use Rattle.tables.specs.Tables.{Columns}
+use Rattle.tables.specs.Passing.{isUnder, reached, Listed}
 use Rattle.tables.proofs.Listing.{listed-end}
 use Rattle.recording.specs.Recording.{Changed}
 use Rattle.recording.proofs.Changes.{changed-none, changed-same, changed-listed}

@@ -7,7 +7,7 @@ use lib.Dec.{eqb, ltb}
 use Rattle.ledger.specs.Filing.{obsoletes}
 use Rattle.tables.specs.Tables.{keyIn}
 use Rattle.recording.specs.Recording.{recOf}
-use Rattle.recording.proofs.Keys.{parts-own}
+use Rattle.tables.proofs.Keys.{parts-own}
 use Rattle.recording.proofs.Changes.{own-deleted, other-answered, other-kept, made-obsolete, made-updated, rest-kept}
 use Rattle.recording.proofs.changing.change_of.Statement.{statement}
 use Rattle.recording.proofs.changing.change_of.Tie as tie

@@ -6,7 +6,8 @@ use Prim.Native.Nat.{ℕ, _≤_, _-_}
 use native.Mathlib.Omega.{arith}
 use lib.ListN.{getD}
 use Rattle.ledger.specs.Filing.{answers}
-use Rattle.tables.specs.Tables.{Columns, keyIn, isUnder, reached, Listed}
+use Rattle.tables.specs.Tables.{Columns, keyIn}
+use Rattle.tables.specs.Passing.{isUnder, reached, Listed}
 use Rattle.tables.proofs.Listing.{listed-next, listed-end, reached-more}
 use Rattle.recording.specs.Recording.{recAt, pairsBelow}
 use Rattle.recording.proofs.Changes.{pairs-next, pairs-same}

@@ -3,7 +3,7 @@ use mathlib.Core.Path.{sym, ap, _∙_}
 use mathlib.Core.Bool.{true, false}
 use mathlib.Core.List.{[]}
 use Rattle.register.proofs.Fits.{noColumns}
-use Rattle.register.proofs.Filings.{refused-20, refused-26, refused-32, from-36, full-is, enrolled-of, judgeable-of, no-pass}
+use Rattle.register.proofs.Filings.{refused-20, refused-26, refused-31, from-36, full-is, enrolled-of, judgeable-of, no-pass}
 use borrow.Author.Needs.{needs}
 use Rattle.register.proofs.Head.judge.Statement.{statement}
 use Rattle.register.proofs.Head.judge.Tie as tie
@@ -31,7 +31,7 @@ timely-requires : tie.Need-timely-requires
 timely-requires c κs =
     let a = c .before .before .before in
     let p = enrolled-of (a .args .self) noColumns [] (a .args .at) (sym (c .before .before .enrolled .ensures noColumns []) ∙ c .enum-told .given .1) in
-    ((p .ceder, p .acquirer), p .category)
+    (p .ceder, p .acquirer)
 
 enum-known-timely : tie.Need-enum-known-timely
 enum-known-timely c = search needs
@@ -67,7 +67,7 @@ refused-by-requires-3 c κs = search needs
 returns-3 : tie.Need-returns-3
 returns-3 c = (
   ap (λ y. y .verdict) (c .refused-by3 .ensures)
-      ∙ sym (refused-32 _ _ _ _ (sym (c .before .before .before .before .before .before .before .before .before .before .before .enrolled .ensures _ _) ∙ c .before .before .before .before .before .before .before .before .before .enum-told .given .1)
+      ∙ sym (refused-31 _ _ _ _ (sym (c .before .before .before .before .before .before .before .before .before .before .before .enrolled .ensures _ _) ∙ c .before .before .before .before .before .before .before .before .before .enum-told .given .1)
       (sym (c .before .before .before .before .before .before .before .before .timely .ensures _ _) ∙ c .before .before .before .before .before .before .enum-told2 .given .1)
       _ (sym (c .before .before .before .before .steps-fit .ensures .0) ∙ c .before .before .verdict .given .1)),
   (λ t. no-pass _ (sym (ap (λ y. y .verdict) (c .refused-by3 .ensures)) ∙ t)),
@@ -101,7 +101,7 @@ returns-5 c =
           ∙ sym (from-36 _ _ _ _ (sym (c .before .before .before .before .before .before .before .before .before .before .before .enrolled .ensures _ _) ∙ c .before .before .before .before .before .before .before .before .before .enum-told .given .1)
           (sym (c .before .before .before .before .before .before .before .before .timely .ensures _ _) ∙ c .before .before .before .before .before .before .enum-told2 .given .1)
           (sym (c .before .before .before .before .steps-fit .ensures .0) ∙ c .before .before .enum-told3 .given .1))),
-      (λ t. c .before .before .before .before .steps-fit .ensures .1),
+      c .before .before .before .before .steps-fit .ensures .1,
     )
 
 pub judge-spec : {M : Type 1} → statement M

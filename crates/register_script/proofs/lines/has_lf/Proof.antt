@@ -4,8 +4,6 @@ use Prim.Native.Nat.{_≤_, _-_}
 use lib.ListN.{length}
 use Rattle.register_script.proofs.lines.has_lf.Statement.{statement}
 use Rattle.register_script.proofs.lines.has_lf.Tie as tie
-use Rattle.register_script.proofs.lines.has_lf.Reads as reads
-use Rattle.register_script.proofs.lines.has_lf.Lts as lts
 
 abbrev Inv-loop : tie.InvT-loop
 Inv-loop s found₀ i₀ found i = i ≤ length s

@@ -4,9 +4,6 @@ use Prim.Native.Nat.{_≤_, _-_}
 use lib.ListN.{length}
 use Rattle.register_script.proofs.lines.near_end.Statement.{statement}
 use Rattle.register_script.proofs.lines.near_end.Tie as tie
-use Rattle.register_script.proofs.lines.near_end.Reads as reads
-use Rattle.register_script.proofs.lines.near_end.Lts as lts
-use Rattle.register_script.proofs.lines.has_lf.Reads as has-lf-reads
 
 abbrev Inv-loop : tie.InvT-loop
 Inv-loop s from i₀ i = (from ≤ i) × (i ≤ length s)

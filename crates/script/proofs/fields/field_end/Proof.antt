@@ -4,7 +4,8 @@ use Prim.Native.Nat.{_-_, _≤_}
 use native.Mathlib.Omega.{arith}
 use lib.ListN.{length, drop}
 use Rattle.lists.specs.Searches.{placeOf}
-use Rattle.script.proofs.Parting.{isComma, comma-here, comma-past, comma-nowhere}
+use Rattle.script.specs.Walking.{isComma}
+use Rattle.script.proofs.Parting.{comma-here, comma-past, comma-nowhere}
 use Rattle.script.proofs.fields.field_end.Statement.{statement}
 use Rattle.script.proofs.fields.field_end.Tie as tie
 

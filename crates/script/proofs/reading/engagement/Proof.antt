@@ -4,38 +4,38 @@ use Rattle.script.proofs.LineKinds.{engagement-one, engagement-two, eng
 use Rattle.script.proofs.reading.engagement.Statement.{statement}
 use Rattle.script.proofs.reading.engagement.Tie as tie
 
-field-end-requires : tie.Need-field-end-requires
-field-end-requires c κs = search needs
+text-end-requires : tie.Need-text-end-requires
+text-end-requires c κs = search needs
 
 returns : tie.Need-returns
-returns c = engagement-one _ _ (c .before .field-end .ensures) (c .if1 .taken)
+returns c = engagement-one _ _ (c .before .text-end .ensures) (c .if1 .taken)
 
 add-field-end : tie.Need-add-field-end
 add-field-end c = search needs
 
-field-end-requires-2 : tie.Need-field-end-requires-2
-field-end-requires-2 c κs = search needs
+field-end-requires : tie.Need-field-end-requires
+field-end-requires c κs = search needs
 
 returns-2 : tie.Need-returns-2
-returns-2 c = engagement-two _ _ (c .before .before .before .field-end .ensures) _ (c .before .field-end2 .ensures) (c .if2 .taken)
+returns-2 c = engagement-two _ _ (c .before .before .before .text-end .ensures) _ (c .before .field-end .ensures) (c .if2 .taken)
 
 add-third : tie.Need-add-third
 add-third c = search needs
 
-field-end-requires-3 : tie.Need-field-end-requires-3
-field-end-requires-3 c κs = search needs
+date-end-requires : tie.Need-date-end-requires
+date-end-requires c κs = search needs
 
 returns-3 : tie.Need-returns-3
-returns-3 c = engagement-three _ _ (c .before .before .before .before .before .field-end .ensures) _ (c .before .before .before .field-end2 .ensures) _ (c .before .field-end3 .ensures) (c .if3 .taken)
+returns-3 c = engagement-three _ _ (c .before .before .before .before .before .text-end .ensures) _ (c .before .before .before .field-end .ensures) _ (c .before .date-end .ensures) (c .if3 .taken)
 
 add-fourth : tie.Need-add-fourth
 add-fourth c = search needs
 
-field-end-requires-4 : tie.Need-field-end-requires-4
-field-end-requires-4 c κs = search needs
+field-end-requires-2 : tie.Need-field-end-requires-2
+field-end-requires-2 c κs = search needs
 
 returns-4 : tie.Need-returns-4
-returns-4 c = engagement-long _ _ (c .before .before .before .before .before .before .before .field-end .ensures) _ (c .before .before .before .before .before .field-end2 .ensures) _ (c .before .before .before .field-end3 .ensures) _ (c .before .field-end4 .ensures) (c .if4 .taken)
+returns-4 c = engagement-long _ _ (c .before .before .before .before .before .before .before .text-end .ensures) _ (c .before .before .before .before .before .field-end .ensures) _ (c .before .before .before .date-end .ensures) _ (c .before .field-end2 .ensures) (c .if4 .taken)
 
 sub-day-in : tie.Need-sub-day-in
 sub-day-in c = search needs
@@ -69,28 +69,28 @@ cast-t23 c = search needs
 
 returns-5 : tie.Need-returns-5
 returns-5 c =
-    engagement-good _ _ (c .before .before .before .before .before .before .before .before .before .before .before .before .field-end .ensures) _ (c .before .before .before .before .before .before .before .before .before .before .field-end2 .ensures) _ (c .before .before .before .before .before .before .before .before .field-end3 .ensures) _ (c .before .before .before .before .before .before .field-end4 .ensures) (c .before .before .before .before .before .if4 .left) _ _ (c .before .before .before .day-in .ensures)
+    engagement-good _ _ (c .before .before .before .before .before .before .before .before .before .before .before .before .text-end .ensures) _ (c .before .before .before .before .before .before .before .before .before .before .field-end .ensures) _ (c .before .before .before .before .before .before .before .before .date-end .ensures) _ (c .before .before .before .before .before .before .field-end2 .ensures) (c .before .before .before .before .before .if4 .left) _ _ (c .before .before .before .day-in .ensures)
     (c .before .number-in .ensures) (c .before .before .before .before .before .before .before .before .before .if2 .left) (c .if5 .taken)
 
 returns-6 : tie.Need-returns-6
 returns-6 c =
-    engagement-bad _ _ (c .before .before .before .before .before .before .before .before .before .before .before .before .field-end .ensures) _ (c .before .before .before .before .before .before .before .before .before .before .field-end2 .ensures) _ (c .before .before .before .before .before .before .before .before .field-end3 .ensures) _ (c .before .before .before .before .before .before .field-end4 .ensures) (c .before .before .before .before .before .if4 .left) _ _ (c .before .before .before .day-in .ensures)
+    engagement-bad _ _ (c .before .before .before .before .before .before .before .before .before .before .before .before .text-end .ensures) _ (c .before .before .before .before .before .before .before .before .before .before .field-end .ensures) _ (c .before .before .before .before .before .before .before .before .date-end .ensures) _ (c .before .before .before .before .before .before .field-end2 .ensures) (c .before .before .before .before .before .if4 .left) _ _ (c .before .before .before .day-in .ensures)
     (c .before .number-in .ensures) (c .if5 .left)
 
 pub engagement-spec : {M : Type 1} → statement M
 engagement-spec =
     tie.close
     (tie.spec
-    field-end-requires
+    text-end-requires
     returns
     add-field-end
-    field-end-requires-2
+    field-end-requires
     returns-2
     add-third
-    field-end-requires-3
+    date-end-requires
     returns-3
     add-fourth
-    field-end-requires-4
+    field-end-requires-2
     returns-4
     sub-day-in
     part-day-in-start

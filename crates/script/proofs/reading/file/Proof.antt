@@ -4,35 +4,35 @@ use Rattle.script.proofs.LineKinds.{file-short, file-long, file-good}
 use Rattle.script.proofs.reading.file.Statement.{statement}
 use Rattle.script.proofs.reading.file.Tie as tie
 
-field-end-requires : tie.Need-field-end-requires
-field-end-requires c κs = search needs
+text-end-requires : tie.Need-text-end-requires
+text-end-requires c κs = search needs
 
 returns : tie.Need-returns
-returns c = file-short _ _ (c .before .field-end .ensures) (c .if1 .taken)
+returns c = file-short _ _ (c .before .text-end .ensures) (c .if1 .taken)
 
-add-field-end : tie.Need-add-field-end
-add-field-end c = search needs
+add-text-end : tie.Need-add-text-end
+add-text-end c = search needs
 
-field-end-requires-2 : tie.Need-field-end-requires-2
-field-end-requires-2 c κs = search needs
+text-end-requires-2 : tie.Need-text-end-requires-2
+text-end-requires-2 c κs = search needs
 
 returns-2 : tie.Need-returns-2
-returns-2 c = file-long _ _ (c .before .before .before .field-end .ensures) _ (c .before .field-end2 .ensures) (c .if2 .taken)
+returns-2 c = file-long _ _ (c .before .before .before .text-end .ensures) _ (c .before .text-end2 .ensures) (c .if2 .taken)
 
 cast-t7 : tie.Need-cast-t7
 cast-t7 c = search needs
 
 returns-3 : tie.Need-returns-3
-returns-3 c = file-good _ _ (c .before .before .before .field-end .ensures) _ (c .before .field-end2 .ensures) (c .before .before .if1 .left) (c .if2 .left)
+returns-3 c = file-good _ _ (c .before .before .before .text-end .ensures) _ (c .before .text-end2 .ensures) (c .before .before .if1 .left) (c .if2 .left)
 
 pub file-spec : {M : Type 1} → statement M
 file-spec =
     tie.close
     (tie.spec
-    field-end-requires
+    text-end-requires
     returns
-    add-field-end
-    field-end-requires-2
+    add-text-end
+    text-end-requires-2
     returns-2
     cast-t7
     returns-3)

@@ -4,20 +4,20 @@ use Rattle.script.proofs.LineKinds.{record-short, record-long, record-g
 use Rattle.script.proofs.reading.record_of.Statement.{statement}
 use Rattle.script.proofs.reading.record_of.Tie as tie
 
-field-end-requires : tie.Need-field-end-requires
-field-end-requires c κs = search needs
+text-end-requires : tie.Need-text-end-requires
+text-end-requires c κs = search needs
 
 returns : tie.Need-returns
-returns c = record-short _ _ (c .before .field-end .ensures) (c .if1 .taken)
+returns c = record-short _ _ (c .before .text-end .ensures) (c .if1 .taken)
 
 add-second : tie.Need-add-second
 add-second c = search needs
 
-field-end-requires-2 : tie.Need-field-end-requires-2
-field-end-requires-2 c κs = search needs
+field-end-requires : tie.Need-field-end-requires
+field-end-requires c κs = search needs
 
 returns-2 : tie.Need-returns-2
-returns-2 c = record-long _ _ (c .before .before .before .field-end .ensures) _ (c .before .field-end2 .ensures) (c .if2 .taken)
+returns-2 c = record-long _ _ (c .before .before .before .text-end .ensures) _ (c .before .field-end .ensures) (c .if2 .taken)
 
 sub-number-in : tie.Need-sub-number-in
 sub-number-in c = search needs
@@ -35,19 +35,19 @@ cast-t13 : tie.Need-cast-t13
 cast-t13 c = search needs
 
 returns-3 : tie.Need-returns-3
-returns-3 c = record-good _ _ (c .before .before .before .before .before .before .field-end .ensures) _ (c .before .before .before .before .field-end2 .ensures) (c .before .before .before .if2 .left) _ (c .before .number-in .ensures) (c .before .before .before .before .before .if1 .left) (c .if3 .taken)
+returns-3 c = record-good _ _ (c .before .before .before .before .before .before .text-end .ensures) _ (c .before .before .before .before .field-end .ensures) (c .before .before .before .if2 .left) _ (c .before .number-in .ensures) (c .before .before .before .before .before .if1 .left) (c .if3 .taken)
 
 returns-4 : tie.Need-returns-4
-returns-4 c = record-bad _ _ (c .before .before .before .before .before .before .field-end .ensures) _ (c .before .before .before .before .field-end2 .ensures) (c .before .before .before .if2 .left) _ (c .before .number-in .ensures) (c .if3 .left)
+returns-4 c = record-bad _ _ (c .before .before .before .before .before .before .text-end .ensures) _ (c .before .before .before .before .field-end .ensures) (c .before .before .before .if2 .left) _ (c .before .number-in .ensures) (c .if3 .left)
 
 pub record-of-spec : {M : Type 1} → statement M
 record-of-spec =
     tie.close
     (tie.spec
-    field-end-requires
+    text-end-requires
     returns
     add-second
-    field-end-requires-2
+    field-end-requires
     returns-2
     sub-number-in
     part-number-in-start

@@ -18,7 +18,7 @@ same-length : tie.Need-same-length
 same-length c = search needs
 
 returns : tie.Need-returns
-returns c = answer-placed _ _ _ _ _ _ _ (omega arith) (c .before .before .before .before .before .before .put-number .ensures) (c .before .before .put-said .ensures)
+returns c = answer-placed _ _ _ _ _ _ _ _ (omega arith) (c .before .before .before .before .before .before .put-number .ensures) (c .before .before .put-said .ensures)
 
 pub put-answer-spec : {M : Type 1} → statement M
 put-answer-spec = tie.close (tie.spec put-number-requires put-said-requires same-length returns)

@@ -1,10 +1,10 @@
 -- What is found below `i` is what is found below the count, while four are passed at once and then one by one.
-use mathlib.Core.Path.{_≡_, refl, sym, _∙_}
-use Prim.Native.Nat.{_≤_, _<_}
+use mathlib.Core.Path.{_≡_, refl, sym, ap, _∙_}
+use Prim.Native.Nat.{_+_, _-_, _≤_, _<_}
 use native.Mathlib.Omega.{arith}
-use Rattle.tables.specs.Tables.{lastBelow}
+use Rattle.tables.specs.Passing.{lastBelow}
 use Rattle.tables.proofs.Down.{last-none}
-use Rattle.tables.proofs.Fours.{last-past-four}
+use Rattle.tables.proofs.Fours.{last-past-bits}
 use Rattle.tables.proofs.LoadTable.{isNumber, search-hit, search-skip}
 use borrow.Author.Needs.{needs}
 use Rattle.tables.proofs.loads.last_of.Statement.{statement}
@@ -39,7 +39,9 @@ loop-again c =
     let b = c .before .before .loop in
     let a = c .before .before .before .args in
     let f = c .before .passes-four .ensures (c .if1 .taken) in
-    (omega arith, sym (last-past-four (isNumber (a .keys .now) (a .number)) (b .i) (f .0) (f .1)) ∙ b .inv .1)
+    let h = f .0 in
+    let e : b .i - 4 + 4 ≡ b .i = omega arith in
+    (omega arith, sym (last-past-bits (isNumber (a .keys .now) (a .number)) (b .i - 4) 4 (f .1)) ∙ (ap (lastBelow (isNumber (a .keys .now) (a .number))) e ∙ b .inv .1))
 
 loop2-holds : tie.Need-loop2-holds Inv-loop μ-loop Inv-loop2 μ-loop2
 loop2-holds c = c .before .before .loop .inv

@@ -1,7 +1,7 @@
 -- `Loads::find` meets its contract: the loads below the count are those that are there.
 use borrow.Author.Needs.{needs}
 use mathlib.Core.Path.{ap, _∙_}
-use Rattle.tables.specs.Tables.{lastBelow, lastLoad}
+use Rattle.tables.specs.Passing.{lastBelow, lastLoad}
 use Rattle.tables.proofs.LoadTable.{isNumber}
 use Rattle.tables.proofs.loads.Loads.find.Statement.{statement}
 use Rattle.tables.proofs.loads.Loads.find.Tie as tie

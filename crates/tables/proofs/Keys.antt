@@ -1,11 +1,12 @@
--- Two keys as numbers are equal where their ceder, acquirer, category and day are.
-use mathlib.Core.Path.{_≡_, refl, sym, _∙_, ap₂}
+-- Keys as numbers: two are equal where their ceder, acquirer, category and day are, and a number is unpacked into these parts.
+use mathlib.Core.Path.{_≡_, refl, sym, _∙_, ap, ap₂}
 use mathlib.Core.Bool.{Bool, true, _&&_}
-use Prim.Native.Nat.{ℕ, _+_, _*_, _/_, _%_}
+use Prim.Native.Nat.{ℕ, _+_, _*_, _/_, _%_, _<_}
 use native.Mathlib.Omega.{arith}
 use lib.Dec.{eqb}
 use borrow.Author.Tests.{eqb-true, eqb-false, eq-eqb}
 use Rattle.lists.proofs.Tests.{by-test, and-left, and-right}
+use Rattle.tables.specs.Tables.{keyNumber, keyIn}
 
 -- a number by its last parts
 by-four : (n : ℕ) → n / 256 * 4 + n / 64 % 4 ≡ n / 64
@@ -53,3 +54,35 @@ key-same key own =
     (λ t. by-test (sameParts key own)
     (λ u. absurd (eqb-false key own t (parts-equal key own u)))
     (λ u. u ∙ sym t))
+
+-- ---- a number by its parts
+
+last-digit : (n a : ℕ) → a < 8 → (n * 8 + a) % 8 ≡ a
+last-digit n a h = omega arith
+
+other-digits : (n a : ℕ) → a < 8 → (n * 8 + a) / 8 ≡ n
+other-digits n a h = omega arith
+
+last-of-four : (n z : ℕ) → z < 4 → (n * 4 + z) % 4 ≡ z
+last-of-four n z h = omega arith
+
+other-fours : (n r : ℕ) → r < 64 → (n * 64 + r) / 64 ≡ n
+other-fours n r h = omega arith
+
+days : (d r : ℕ) → r < 256 → (d * 256 + r) / 256 ≡ d
+days d r h = omega arith
+
+-- a number of a key is unpacked into its parts
+pub key-unpacked : (c a z d : ℕ) → c < 8 → a < 8 → z < 4 →
+    keyIn (keyNumber c a z d) ≡ record { ceder = c; acquirer = a; category = z; day = d }
+key-unpacked c a z d h i j =
+    let n = d * 32 + z * 8 + c in
+    let whole : keyNumber c a z d ≡ n * 8 + a = omega arith in
+    let w₁ : n ≡ (d * 4 + z) * 8 + c = omega arith in
+    let e₁ : keyNumber c a z d / 8 % 8 ≡ c = rw (whole, other-digits n a i) (ap (λ t. t % 8) w₁ ∙ last-digit (d * 4 + z) c h) in
+    let e₂ : keyNumber c a z d % 8 ≡ a = rw whole (last-digit n a i) in
+    let w₃ : keyNumber c a z d ≡ (d * 4 + z) * 64 + (c * 8 + a) = omega arith in
+    let e₃ : keyNumber c a z d / 64 % 4 ≡ z = rw (w₃, other-fours (d * 4 + z) (c * 8 + a) (omega arith)) (last-of-four d z j) in
+    let w₄ : keyNumber c a z d ≡ d * 256 + (z * 64 + c * 8 + a) = omega arith in
+    let e₄ : keyNumber c a z d / 256 ≡ d = rw w₄ (days d (z * 64 + c * 8 + a) (omega arith)) in
+    cc
