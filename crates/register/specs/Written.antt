@@ -1,5 +1,6 @@
--- WHAT A CALL LEAVES, PLACE BY PLACE: where it is refused, the register as it came in; else one table with what the call puts into it,
--- and every other place of the register with what it held.
+-- WHAT A CALL LEAVES, PLACE BY PLACE (document 01, "The buyer's note": "Each open function states its result and all that it may write,
+-- for all inputs and refusals, as an equality with a definition"): where it is refused, the register as it came in; else one table with
+-- what the call puts into it, and every other place of the register with what it held.
 use mathlib.Core.List.{List, [], _∷_}
 use Prim.Native.Nat.{ℕ, _+_}
 use lib.ListN.{getD, set, replicate}
@@ -23,7 +24,7 @@ use Rattle.tables.specs.declared.records.Records.{Records}
 use Rattle.register.specs.declared.Head.{Head}
 use Rattle.register.specs.View.{Register, held}
 
--- a fresh head: all places hold 0
+-- a fresh head ("the fresh register's per-record statuses and ids are [0; 256] arrays"): every place holds 0
 abbrev pub freshHead : Head
 freshHead =
     record {
@@ -101,7 +102,7 @@ recordPut r by k ps =
 
 -- ---- the calls
 
--- what an accepted call writes
+-- what an accepted call of demand 3's list writes: one actor, category, load or record more, or the clock
 unfoldable pub writes : Register → Call → Register
 writes r (enrolActor code first last) = actorsPut r (moreActors (r .head .actors) (record { code = code; first = first; last = last }))
 writes r (enrolCategory text) = categoriesPut r (moreCategories (r .head .categories) (record { text = sixBytes text }))

@@ -4,7 +4,7 @@ ghost use lib.ListN.{length};
 use answers::Said;
 use libc::STDOUT_FILENO;
 use script::writing::LINE_ROOM;
-use script::writing::write_answer_at;
+use script::writing::write_answer;
 
 // The most bytes that are read at once.
 pub const BLOCK: usize = 65536;
@@ -82,5 +82,5 @@ pub fn put(output: &mut [u8; WAITING], out: usize, number: u64, said: Said) -> u
     ensures { λ r. ⌜ r ≤ 16384 ⌝ }
 {
     let at = room_for(&*output, out);
-    write_answer_at(number, said, output, at)
+    write_answer(number, said, output, at)
 }

@@ -9,14 +9,14 @@ use native.Mathlib.Omega.{arith}
 use lib.Dec.{eqb, ltb}
 use lib.ListN.{length, getD, set, take, length-append, length-set}
 use lib.Seq.{sets, take-suc, take-all, length-take-le}
-use borrow.Author.Tests.{ltb-true, ltb-false, eq-eqb, ne-eqb}
+use borrow.Author.Tests.{ltb-true, ltb-false, eq-eqb, ne-eqb, le-leb, lt-leb}
 use Rattle.lists.proofs.Tests.{by-test, and-left, and-right, right-false}
 use Rattle.writer.specs.Placing.{Placed}
 use Rattle.writer.proofs.Placed.{placed-none, placed-length, placed-end, placed-join}
 use Rattle.answers.specs.declared.Said.{Said}
 use Rattle.script.specs.Numbers.{decimal}
 use Rattle.script.specs.Lines.{comma}
-use Rattle.script.specs.Answers.{valueText, valuesText, okText, noText, saidText, answerLine}
+use Rattle.script.specs.Answers.{valueText, valuesText, okText, noText, saidText, answerLine, lineRoom, answerPut, answerEnd}
 use Rattle.script.proofs.Decimals.{wordEnd, decimal-few, decimal-most}
 
 pub word-placed : (l : List ℕ) (at a b : ℕ) → Placed l at (comma ∷ a ∷ b ∷ []) (set (set (set l at comma) (at + 1) a) (at + 2) b) (at + 3)
@@ -131,3 +131,15 @@ answer-placed l at number said b second c end h p q =
     let f = p .follows in
     let r = q .1 in
     (placed-join p (q .0), omega (arith, decimal-most number h))
+
+-- ---- the whole line, where there is room for the longest
+
+module _ (out : List ℕ) (at number : ℕ) (said : Said) where
+  pub answer-put : (after : List ℕ) (next : ℕ) → at + lineRoom ≤ length out → Placed out at (answerLine number said) after next →
+      (after ≡ answerPut out at number said) × (next ≡ answerEnd out at number said)
+  unfolding answerPut answerEnd
+  answer-put after next h p = let t = le-leb (at + lineRoom) (length out) h in (rw t (p .holds), rw t (p .follows))
+
+  pub answer-none : length out < at + lineRoom → (out ≡ answerPut out at number said) × (at ≡ answerEnd out at number said)
+  unfolding answerPut answerEnd
+  answer-none h = let t = lt-leb (at + lineRoom) (length out) h in (rw t, rw t)

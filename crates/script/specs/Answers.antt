@@ -2,9 +2,10 @@
 -- `ok` and the result, or `no`, the number and the place").
 use mathlib.Core.Bool.{Bool, cond}
 use mathlib.Core.List.{List, [], _∷_, _++_}
-use Prim.Native.Nat.{ℕ, suc, _%_}
-use lib.Dec.{eqb}
-use lib.ListN.{take}
+use Prim.Native.Nat.{ℕ, suc, _+_, _%_}
+use lib.Dec.{eqb, leb}
+use lib.ListN.{length, take}
+use lib.Seq.{sets}
 use Rattle.answers.specs.declared.Said.{Said}
 use Rattle.script.specs.Numbers.{decimal}
 use Rattle.script.specs.Lines.{comma}
@@ -33,3 +34,15 @@ saidText said = comma ∷ (cond (eqb (said .number) 0) (okText said) (noText sai
 -- THE LINE THAT ANSWERS
 unfoldable pub answerLine : ℕ → Said → List ℕ
 answerLine number said = decimal number ++ saidText said
+
+-- the most bytes of such a line
+abbrev pub lineRoom : ℕ
+lineRoom = 64
+
+-- a lent buffer with the line that answers at a place, every other byte as it was; without room for the longest line it stays as it is
+unfoldable pub answerPut : List ℕ → ℕ → ℕ → Said → List ℕ
+answerPut out at number said = cond (leb (at + lineRoom) (length out)) (sets out at (answerLine number said)) out
+
+-- the place after that line
+unfoldable pub answerEnd : List ℕ → ℕ → ℕ → Said → ℕ
+answerEnd out at number said = cond (leb (at + lineRoom) (length out)) (at + length (answerLine number said)) at

@@ -1,12 +1,11 @@
 // The line that answers a line of the script: its number, then `ok` and the result, or `no`, the number and the place.
 ghost use mathlib.Core.Path.{_≡_};
 ghost use mathlib.Core.List.{[], _∷_};
-ghost use Prim.Native.Nat.{_+_, _≤_, _<_};
+ghost use Prim.Native.Nat.{_+_, _≤_};
 ghost use lib.ListN.{length, take};
-ghost use lib.Seq.{sets};
 ghost use Rattle.writer.specs.Placing.{Placed};
 ghost use Rattle.script.specs.Lines.{comma};
-ghost use Rattle.script.specs.Answers.{valueText, valuesText, saidText, answerLine};
+ghost use Rattle.script.specs.Answers.{valueText, valuesText, saidText, answerLine, answerPut, answerEnd};
 use crate::digits::put_number;
 use answers::Said;
 
@@ -82,8 +81,8 @@ fn put_answer(out: &mut [u8], at: usize, number: u64, said: Said) -> usize
 
 // Writes the line that answers at a place of a lent buffer, the rest untouched, and gives the place after it. A buffer that has no 64
 // bytes from that place on stays as it is.
-pub fn write_answer_at(number: u64, said: Said, out: &mut [u8], at: usize) -> usize
-    ensures { λ r. ⌜ (at + 64 ≤ length (now (out .entry)) → Placed (now (out .entry)) at (answerLine number said) (now (out .exit)) r × (r ≤ at + 64)) × (length (now (out .entry)) < at + 64 → (now (out .exit) ≡ now (out .entry)) × (r ≡ at)) ⌝ }
+pub fn write_answer(number: u64, said: Said, out: &mut [u8], at: usize) -> usize
+    ensures { λ r. ⌜ (now (out .exit) ≡ answerPut (now (out .entry)) at number said) × (r ≡ answerEnd (now (out .entry)) at number said) × (r ≤ at + 64) ⌝ }
 {
     if out.len() < LINE_ROOM {
         return at;
@@ -92,11 +91,4 @@ pub fn write_answer_at(number: u64, said: Said, out: &mut [u8], at: usize) -> us
         return at;
     }
     put_answer(out, at, number, said)
-}
-
-// Writes the line that answers at the beginning of a lent buffer, the rest untouched, and gives its length.
-pub fn write_answer(number: u64, said: Said, out: &mut [u8; 64]) -> u32
-    ensures { λ r. ⌜ (now (out .exit) ≡ sets (now (out .entry)) 0 (answerLine number said)) × (r ≡ length (answerLine number said)) × (r ≤ 64) ⌝ }
-{
-    put_answer(out, 0, number, said) as u32
 }

@@ -1,4 +1,5 @@
--- WHAT IS WRITTEN INTO A TABLE. One entry more stands at the first free place, and every other place holds what it held.
+-- WHAT IS WRITTEN INTO A TABLE of document 01's "8 actors, 4 categories, 64 loads, 256 records". One entry more stands at the first free
+-- place, and every other place holds what it held.
 use mathlib.Core.List.{List}
 use Prim.Native.Nat.{ℕ, zero, suc, _+_}
 use lib.ListN.{set}
@@ -23,6 +24,6 @@ unfoldable pub putTo : {A : Type 0} → (ℕ → A) → ℕ → List A → List 
 putTo f zero xs = xs
 putTo f (suc n) xs = set (putTo f n xs) n (f n)
 
--- a mark with another until-step
+-- a record's mark with another until-step
 abbrev pub withUntil : List ℕ → ℕ → List ℕ
 withUntil mark until = set mark 2 until

@@ -7,13 +7,11 @@ use Rattle.register_script.proofs.lines.put.Tie as tie
 room-for-requires : tie.Need-room-for-requires
 room-for-requires c κs = search needs
 
-write-answer-at-requires : tie.Need-write-answer-at-requires
-write-answer-at-requires c κs = search needs
+write-answer-requires : tie.Need-write-answer-requires
+write-answer-requires c κs = search needs
 
 returns : tie.Need-returns
-returns c =
-    let h = c .before .before .room-for .ensures in
-    omega (arith, h, c .write-answer-at .ensures .0 (omega (arith, h, c .before .write-answer-at-arg .given .0)) .1)
+returns c = omega (arith, c .before .before .room-for .ensures, c .write-answer .ensures .2)
 
 pub put-spec : {M : Type 1} → statement M
-put-spec = tie.close (tie.spec room-for-requires write-answer-at-requires returns)
+put-spec = tie.close (tie.spec room-for-requires write-answer-requires returns)
