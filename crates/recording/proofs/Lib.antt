@@ -2,4 +2,5 @@
 pub mod Turns
 pub mod Puts
 pub mod Changes
+pub mod AllChanged
 pub mod Views

@@ -32,6 +32,10 @@ use Rattle.tables.proofs.LoadTable.{loads-length, found-load}
 use Rattle.register.specs.View.{view}
 use Rattle.register.specs.declared.Head.{Head}
 
+-- no columns, to ask what doesn't depend on them
+abbrev pub noColumns : Columns
+noColumns = record { keys = []; marks = []; rows = [] }
+
 -- ---- how many actors and categories there are
 
 pub actors-many : (x : Actors) → length (x .entries) ≡ 8 → length (actorsIn x) ≡ min (x .count) 8

@@ -27,9 +27,6 @@ use Rattle.register.specs.Judging.{keyAt, stepTests, Judgeable}
 
 -- ---- what is judged has a counted step
 
-abbrev pub noColumns : Columns
-noColumns = record { keys = []; marks = []; rows = [] }
-
 pub counted-of : (h : Head) (cols : Columns) (loads : List (List ℕ)) (at : Places) → Judgeable (view h cols loads) at →
     firstCounted (h .clock) (at .day) < stepsOf (at .day)
 unfolding view

@@ -13,7 +13,7 @@ use Rattle.ledger.specs.Calls.{verdictOf, fileNote, effect, refusedBy, step}
 use Rattle.ledger.specs.declared.Answer.the-variants.{Refused}
 use Rattle.register.specs.View.{Register, held}
 use Rattle.register.specs.Written.{Done, writes, leaves}
-use Rattle.register.proofs.Demand3.{Did, did-all}
+use Rattle.register.proofs.Runs.{Did, did-all}
 
 -- what an accepted call answers is no refusal
 no-refusal : {P : Type 0} (l : Ledger) (c : Call) (f : Refusal) → Refused f ≡ effect l c .answer → P

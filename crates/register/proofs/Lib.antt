@@ -8,6 +8,9 @@ pub mod Filings
 pub mod Records
 pub mod Notes
 pub mod Answers
+pub mod Runs
+pub mod Demand2
 pub mod Demand3
 pub mod Once
 pub mod Kept
+pub mod RunsExist

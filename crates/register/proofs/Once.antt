@@ -1,13 +1,8 @@
 -- EACH ID ONCE, OF THE CODE: after every list of calls from a fresh register, an accepted history call puts ids from 1 to the number of
 -- records into the buffer, each once.
-use borrow.Fn.Kinds
-use borrow.Fn.World
-use denote.Triple.Clauses
-use contract.Lifetimes
-use denote.Ref.{now}
-use mathlib.Core.Path.{_≡_, refl, sym, _∙_, ap, subst}
+use mathlib.Core.Path.{_≡_, _∙_, ap}
 use mathlib.Core.Bool.{true}
-use mathlib.Core.List.{List, [], _∷_, _++_}
+use mathlib.Core.List.{List, _++_}
 use native.Mathlib.Omega.{arith}
 use Prim.Native.Nat.{ℕ}
 use lib.ListN.{length, take, drop}
@@ -18,31 +13,14 @@ use Rattle.refusals.specs.declared.Verdict.the-variants.{Pass, No}
 use Rattle.ledger.specs.Ledger.{Ledger, fresh}
 use Rattle.ledger.specs.Call.{Call}
 use Rattle.ledger.specs.Asking.{historyOf, historyTests, askHistory, historyIn}
-use Rattle.ledger.specs.Whole.{after}
 use Rattle.ledger.specs.Once.{rising}
 use Rattle.ledger.proofs.Once.{each-once}
 use Rattle.ledger.specs.declared.Answer.{Answer}
-use Rattle.ledger.specs.declared.Listed.{Listed}
 use Rattle.ledger.specs.declared.Listed.the-variants.{Count, Refused}
 use Rattle.tables.specs.Tables.{Columns}
 use Rattle.register.specs.declared.Head.{Head}
 use Rattle.register.specs.View.{Register, held}
-use Rattle.register.proofs.Demand3.{Ran, ran-after}
-use Rattle.register.proofs.Head.fresh.Reads as fresh-reads
-use Rattle.register.proofs.Head.history.Reads as history-reads
-use Rattle.register.proofs.Head.history as history-fn
-use Rattle.register.proofs.Head.history.Kinds as history-kinds
-
--- what the history call answers of a register, and the lent buffer before and after it
-pub data Lists : Register → List ℕ → List ℕ → Listed → List ℕ → Type 1 where
-  lists : (marks rows ls : List (List ℕ)) (κs : Lifetimes.Lfts 3) (a : World.ArgsD history-fn.signature κs) (y : Listed)
-      (s : Clauses.AtExit (Kinds.endedOf 3 history-kinds.ps history-kinds.r) κs) → history-reads.Post κs a y s →
-      Lists (record { head = a .0; columns = record { keys = now (a .1 .0); marks = marks; rows = rows }; loads = ls })
-      (now (a .1 .1 .0)) (now (a .1 .1 .1 .0)) y (now (s .1 .1 .1 .0))
-
-lists-is : {r : Register} {actor before later : List ℕ} {y : Listed} → Lists r actor before y later →
-    (y ≡ askHistory (held r) actor (length before)) × (later ≡ historyIn (held r) actor before)
-lists-is (lists marks rows ls κs a y s e) = e marks rows ls
+use Rattle.register.proofs.Runs.{Begun, Ran, Lists, begun-is, ran-after, lists-is}
 
 -- an accepted call leaves the history at the beginning of the buffer
 by-verdict : (v : Verdict) (ids before later : List ℕ) (n : ℕ) → Count n ≡ decide v (Count (length ids)) Refused →
@@ -58,12 +36,12 @@ unfolding askHistory historyIn
 listed l actor before later n e f = by-verdict (firstMet (historyTests l actor (length before))) (historyOf l actor) before later n e f
 
 -- THE THEOREM, OF EVERY LIST OF CALLS FROM A FRESH REGISTER, whatever its lent columns hold
-pub each-once-of-calls : (head : Head) → fresh-reads.Post tt tt head tt → (cols : Columns) (ls : List (List ℕ)) (cs : List Call)
+pub each-once-of-calls : (head : Head) → Begun head → (cols : Columns) (ls : List (List ℕ)) (cs : List Call)
     (ys : List Answer) (t : Register) → Ran (record { head = head; columns = cols; loads = ls }) cs ys t →
     (actor before later : List ℕ) (n : ℕ) → Lists t actor before (Count n) later →
     rising 0 (take n later) (length (held t .records)) ≡ true
 each-once-of-calls head start cols ls cs ys t run actor before later n q =
-    let p = ran-after run fresh (start .1 cols ls) in
+    let p = ran-after run fresh (begun-is start .1 cols ls) in
     let e = lists-is q in
     let ids = listed (held t) actor before later n (e .0) (e .1) in
     ap (λ is. rising 0 is (length (held t .records))) ids

@@ -19,7 +19,7 @@ use Rattle.refusals.specs.declared.Verdict.{Verdict}
 use Rattle.refusals.specs.declared.Verdict.the-variants.{Pass, No}
 use Rattle.notification.specs.Forms.{isDigit, isCodeByte, isCode, isCategory, sixBytes, categoryText, inPlaces}
 use Rattle.ledger.specs.Call.{Call, enrolActor, enrolCategory, load}
-use Rattle.ledger.specs.Ledger.{Ledger, Load, actorAt, categoryAt}
+use Rattle.ledger.specs.Ledger.{Load, actorAt, categoryAt}
 use Rattle.ledger.specs.Calls.{Outcome, step, verdictOf, effect, actorTests, categoryTests, loadTests}
 use Rattle.ledger.specs.declared.Answer.{Answer}
 use Rattle.ledger.specs.declared.Answer.the-variants.{Held, Refused}
@@ -34,7 +34,7 @@ use Rattle.tables.specs.More.{moreActors, moreCategories, moreLoads}
 use Rattle.register.specs.View.{Register, view, held}
 use Rattle.register.specs.Written.{actorsPut, categoriesPut, loadsPut, writes, leaves, does, seen}
 use Rattle.register.specs.declared.Head.{Head}
-use Rattle.register.proofs.CallTests.{actors-many, categories-many}
+use Rattle.register.proofs.CallTests.{noColumns, actors-many, categories-many}
 
 -- ---- a verdict decides what a call does
 
@@ -48,10 +48,6 @@ unfolding leaves step
 does-passed r s c y v e g w o =
     let k : verdictOf (held r) c ≡ Pass = sym e ∙ g in
     rw k (ap₂ (λ x z. record { register = x; outcome = z }) w o)
-
--- no columns, to ask what doesn't depend on them
-abbrev noColumns : Columns
-noColumns = record { keys = []; marks = []; rows = [] }
 
 -- ---- one actor more
 
@@ -165,16 +161,15 @@ pub record LoadRoom (h : Head) (actor category : List ℕ) (day most : ℕ) (ps 
   pub small : every (λ p. leb p 9999) ps ≡ true
   pub room : h .loads .count < 64
 
-pub load-room : (h : Head) (actor category : List ℕ) (day most : ℕ) (ps : List ℕ) (v : Verdict) →
+pub load-room : (h : Head) (cols : Columns) (loads : List (List ℕ)) (actor category : List ℕ) (day most : ℕ) (ps : List ℕ) →
     length (h .actors .entries) ≡ 8 → length (h .categories .entries) ≡ 4 →
-    ((cols : Columns) (loads : List (List ℕ)) → v ≡ firstMet (loadTests (view h cols loads) actor category day most ps)) → v ≡ Pass →
-    LoadRoom h actor category day most ps
+    firstMet (loadTests (view h cols loads) actor category day most ps) ≡ Pass → LoadRoom h actor category day most ps
 unfolding view
-load-room h actor category day most ps v la lz e p =
-    let ok = load-ok (view h noColumns []) actor category day most ps (sym (e noColumns []) ∙ p) in
+load-room h cols loads actor category day most ps la lz p =
+    let ok = load-ok (view h cols loads) actor category day most ps p in
     let a : actorAt (actorsIn (h .actors)) actor < length (actorsIn (h .actors)) = ok .actor-there in
     let z : categoryAt (categoriesIn (h .categories)) category < length (categoriesIn (h .categories)) = ok .category-there in
-    let r : length (loadsIn (h .loads) []) < 64 = ok .room in
+    let r : length (loadsIn (h .loads) loads) < 64 = ok .room in
     let d : day < 36525 = ok .in-range in
     let m : most < 10000 = ok .powered in
     let n = ok .per-step in
@@ -185,7 +180,7 @@ load-room h actor category day most ps v la lz e p =
       most-small = omega arith;
       few = omega (arith, steps-small day);
       small = every-other (λ p. leb p most) (λ p. leb p 9999) (λ x t. le-leb x 9999 (omega (arith, leb-true x most t))) ps (ok .below);
-      room = omega (arith, loads-length (h .loads) []);
+      room = omega (arith, loads-length (h .loads) loads);
     }
 
 quarter : (m z d : ℕ) → z < 4 → m ≡ d * 4 + z → m % 4 ≡ z

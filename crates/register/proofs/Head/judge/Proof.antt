@@ -2,7 +2,7 @@
 use mathlib.Core.Path.{sym, ap, _∙_}
 use mathlib.Core.Bool.{true, false}
 use mathlib.Core.List.{[]}
-use Rattle.register.proofs.Fits.{noColumns}
+use Rattle.register.proofs.CallTests.{noColumns}
 use Rattle.register.proofs.Filings.{refused-20, refused-26, refused-31, from-36, full-is, enrolled-of, judgeable-of, no-pass}
 use borrow.Author.Needs.{needs}
 use Rattle.register.proofs.Head.judge.Statement.{statement}

@@ -1,5 +1,6 @@
 -- `Head::load` meets its contract: the verdict decides, and the head and the rows have one load more.
-use mathlib.Core.Path.{_≡_, ap, _∙_}
+use mathlib.Core.Path.{_≡_, sym, ap, _∙_}
+use mathlib.Core.List.{[]}
 use native.Mathlib.Omega.{arith}
 use lib.ListN.{length}
 use Rattle.ledger.specs.Call.{load}
@@ -8,6 +9,7 @@ use Rattle.tables.specs.declared.loads.Loads.{Loads}
 use Rattle.register.specs.declared.Reply.{Reply}
 use Rattle.tables.proofs.Entries.{actors-length, categories-length}
 use Rattle.register.specs.Written.{seen}
+use Rattle.register.proofs.CallTests.{noColumns}
 use Rattle.register.proofs.Steps.{does-refused, does-passed, load-room, load-done, load-put}
 use borrow.Author.Needs.{needs}
 use Rattle.register.proofs.Head.load.Statement.{statement}
@@ -47,7 +49,7 @@ load-number-requires c κs =
     let a = b .args in
     let la = actors-length (a .self .actors) _ (b .good .0 .1 .1 .1 .0) in
     let lz = categories-length (a .self .categories) _ (b .good .0 .1 .1 .1 .1 .0) in
-    let ok = load-room (a .self) (a .actor .now) (a .category .now) (a .day) (a .most) (a .powers .now) _ la lz (v .load-verdict .ensures) (c .before .before .before .before .enum-told .given .1) in
+    let ok = load-room (a .self) noColumns [] (a .actor .now) (a .category .now) (a .day) (a .most) (a .powers .now) la lz (sym (v .load-verdict .ensures noColumns []) ∙ c .before .before .before .before .enum-told .given .1) in
     (omega (arith, c .before .place .ensures, ok .actor-small), omega (arith, c .place2 .ensures, ok .category-small), ok .day-small)
 
 cast-with : tie.Need-cast-with
@@ -57,7 +59,7 @@ cast-with c =
     let a = b .args in
     let la = actors-length (a .self .actors) _ (b .good .0 .1 .1 .1 .0) in
     let lz = categories-length (a .self .categories) _ (b .good .0 .1 .1 .1 .1 .0) in
-    let ok = load-room (a .self) (a .actor .now) (a .category .now) (a .day) (a .most) (a .powers .now) _ la lz (v .load-verdict .ensures) (c .before .before .before .before .before .before .enum-told .given .1) in
+    let ok = load-room (a .self) noColumns [] (a .actor .now) (a .category .now) (a .day) (a .most) (a .powers .now) la lz (sym (v .load-verdict .ensures noColumns []) ∙ c .before .before .before .before .before .before .enum-told .given .1) in
     omega (arith, ok .most-small)
 
 with-requires : tie.Need-with-requires
@@ -67,7 +69,7 @@ with-requires c κs =
     let a = b .args in
     let la = actors-length (a .self .actors) _ (b .good .0 .1 .1 .1 .0) in
     let lz = categories-length (a .self .categories) _ (b .good .0 .1 .1 .1 .1 .0) in
-    let ok = load-room (a .self) (a .actor .now) (a .category .now) (a .day) (a .most) (a .powers .now) _ la lz (v .load-verdict .ensures) (c .before .before .before .before .before .before .enum-told .given .1) in
+    let ok = load-room (a .self) noColumns [] (a .actor .now) (a .category .now) (a .day) (a .most) (a .powers .now) la lz (sym (v .load-verdict .ensures noColumns []) ∙ c .before .before .before .before .before .before .enum-told .given .1) in
     ok .room
 
 in-places-requires : tie.Need-in-places-requires
@@ -77,7 +79,7 @@ in-places-requires c κs =
     let a = b .args in
     let la = actors-length (a .self .actors) _ (b .good .0 .1 .1 .1 .0) in
     let lz = categories-length (a .self .categories) _ (b .good .0 .1 .1 .1 .1 .0) in
-    let ok = load-room (a .self) (a .actor .now) (a .category .now) (a .day) (a .most) (a .powers .now) _ la lz (v .load-verdict .ensures) (c .before .before .before .before .before .before .before .enum-told .given .1) in
+    let ok = load-room (a .self) noColumns [] (a .actor .now) (a .category .now) (a .day) (a .most) (a .powers .now) la lz (sym (v .load-verdict .ensures noColumns []) ∙ c .before .before .before .before .before .before .before .enum-told .given .1) in
     (ok .few, ok .small)
 
 rows-of-requires : tie.Need-rows-of-requires
@@ -90,7 +92,7 @@ cast-row c =
     let a = b .args in
     let la = actors-length (a .self .actors) _ (b .good .0 .1 .1 .1 .0) in
     let lz = categories-length (a .self .categories) _ (b .good .0 .1 .1 .1 .1 .0) in
-    let ok = load-room (a .self) (a .actor .now) (a .category .now) (a .day) (a .most) (a .powers .now) _ la lz (v .load-verdict .ensures) (c .before .before .before .before .before .before .before .before .before .before .before .enum-told .given .1) in
+    let ok = load-room (a .self) noColumns [] (a .actor .now) (a .category .now) (a .day) (a .most) (a .powers .now) la lz (sym (v .load-verdict .ensures noColumns []) ∙ c .before .before .before .before .before .before .before .before .before .before .before .enum-told .given .1) in
     omega (arith, ok .room)
 
 mul-row : tie.Need-mul-row
@@ -100,7 +102,7 @@ mul-row c =
     let a = b .args in
     let la = actors-length (a .self .actors) _ (b .good .0 .1 .1 .1 .0) in
     let lz = categories-length (a .self .categories) _ (b .good .0 .1 .1 .1 .1 .0) in
-    let ok = load-room (a .self) (a .actor .now) (a .category .now) (a .day) (a .most) (a .powers .now) _ la lz (v .load-verdict .ensures) (c .before .before .before .before .before .before .before .before .before .before .before .enum-told .given .1) in
+    let ok = load-room (a .self) noColumns [] (a .actor .now) (a .category .now) (a .day) (a .most) (a .powers .now) la lz (sym (v .load-verdict .ensures noColumns []) ∙ c .before .before .before .before .before .before .before .before .before .before .before .enum-told .given .1) in
     omega (arith, ok .room)
 
 element-set-from-row : tie.Need-element-set-from-row
@@ -110,7 +112,7 @@ element-set-from-row c =
     let a = b .args in
     let la = actors-length (a .self .actors) _ (b .good .0 .1 .1 .1 .0) in
     let lz = categories-length (a .self .categories) _ (b .good .0 .1 .1 .1 .1 .0) in
-    let ok = load-room (a .self) (a .actor .now) (a .category .now) (a .day) (a .most) (a .powers .now) _ la lz (v .load-verdict .ensures) (c .before .before .before .before .before .before .before .before .before .before .before .enum-told .given .1) in
+    let ok = load-room (a .self) noColumns [] (a .actor .now) (a .category .now) (a .day) (a .most) (a .powers .now) la lz (sym (v .load-verdict .ensures noColumns []) ∙ c .before .before .before .before .before .before .before .before .before .before .before .enum-told .given .1) in
     ok .room
 
 returns-2 : tie.Need-returns-2
@@ -121,7 +123,7 @@ returns-2 c =
     let a = b .args in
     let la = actors-length (a .self .actors) _ (b .good .0 .1 .1 .1 .0) in
     let lz = categories-length (a .self .categories) _ (b .good .0 .1 .1 .1 .1 .0) in
-    let ok = load-room (a .self) (a .actor .now) (a .category .now) (a .day) (a .most) (a .powers .now) _ la lz (v .load-verdict .ensures) (c .before .before .before .before .before .before .before .before .before .before .before .enum-told .given .1) in
+    let ok = load-room (a .self) noColumns [] (a .actor .now) (a .category .now) (a .day) (a .most) (a .powers .now) la lz (sym (v .load-verdict .ensures noColumns []) ∙ c .before .before .before .before .before .before .before .before .before .before .before .enum-told .given .1) in
     let l : length (a .rows .now) ≡ 64 = c .before .rows-of-arg2 .given .0 in
     λ cols.
     does-passed (record { head = a .self; columns = cols; loads = a .rows .now }) _ (load (a .actor .now) (a .category .now) (a .day) (a .most) (a .powers .now)) _ _ (v .load-verdict .ensures cols (a .rows .now)) (c .before .before .before .before .before .before .before .before .before .before .before .enum-told .given .1)

@@ -1,7 +1,7 @@
 -- `Head::record_note` meets its contract: the records before are changed, and the new one stands first.
 use mathlib.Core.List.{[]}
 use native.Mathlib.Omega.{arith}
-use Rattle.register.proofs.Fits.{noColumns}
+use Rattle.register.proofs.CallTests.{noColumns}
 use Rattle.register.proofs.Records.{record-room, first-small, head-statuses, head-ids, record-done, listed-under}
 use borrow.Author.Needs.{needs}
 use Rattle.register.proofs.Head.record_note.Statement.{statement}

@@ -6,7 +6,8 @@ use Rattle.calendar.proofs.StepCounts.{steps-small}
 use Rattle.register.specs.Judging.{keyAt}
 use Rattle.register.proofs.Days.{load-refused, load-passed, last-is}
 use Rattle.register.proofs.Filings.{no-pass}
-use Rattle.register.proofs.Fits.{noColumns, counted-of, fits-is}
+use Rattle.register.proofs.CallTests.{noColumns}
+use Rattle.register.proofs.Fits.{counted-of, fits-is}
 use Rattle.register.proofs.Records.{under-listed}
 use borrow.Author.Needs.{needs}
 use Rattle.register.proofs.Head.steps_fit.Statement.{statement}
