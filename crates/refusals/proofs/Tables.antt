@@ -3,7 +3,7 @@ use mathlib.Core.Path.{_≡_, refl}
 use mathlib.Core.List.{List, [], _∷_, map}
 use Prim.Native.Nat.{ℕ}
 use Rattle.refusals.specs.Numbers.{inputNumber, stateNumber, numberOf, placeOf}
-use Rattle.refusals.specs.Tests.{input, state}
+use Rattle.refusals.specs.Tests.{Test, input, state}
 use Rattle.refusals.specs.declared.InputRefusal.{InputRefusal}
 use Rattle.refusals.specs.declared.InputRefusal.the-variants.{Name, Body, Header, Differs, Lines, Labels, Power, Zeros, Form, Range}
 use Rattle.refusals.specs.declared.StateRefusal.{StateRefusal}
@@ -33,3 +33,13 @@ number-and-place f g p = (refl, refl, refl, refl)
 -- "the place is 0 unless named"
 pub place-not-named : (f : InputRefusal) (g : StateRefusal) → (placeOf (input f) ≡ 0) × (placeOf (state g) ≡ 0)
 place-not-named f g = (refl, refl)
+
+-- ---- the tests of a call, as "Order" of document 01 lists them
+
+-- number and place of the refusal of each test, in their order
+abbrev pub rows : List Test → List (ℕ × ℕ)
+rows ts = map (λ t. (numberOf (t .1), placeOf (t .1))) ts
+
+-- numbers whose place isn't named
+abbrev pub unplaced : List ℕ → List (ℕ × ℕ)
+unplaced ns = map (λ n. (n, 0)) ns
