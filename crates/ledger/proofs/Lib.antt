@@ -15,3 +15,4 @@ pub mod Once
 pub mod Examples
 pub mod Winter
 pub mod Witness
+pub mod Orders
