@@ -16,3 +16,7 @@ pub mod Examples
 pub mod Winter
 pub mod Witness
 pub mod Orders
+pub mod Filings
+pub mod Bounds
+pub mod Asked
+pub mod Kept

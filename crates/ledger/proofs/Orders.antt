@@ -1,6 +1,6 @@
 -- "Order" of document 01, for every ledger and all arguments: the numbers of the tests of each call, in the order in which they are tried,
 -- each with its place. The first test that is met refuses (`firstMet`).
-use mathlib.Core.Path.{_≡_, refl, sym, ap, _∙_}
+use mathlib.Core.Path.{_≡_, refl, sym}
 use mathlib.Core.Bool.{Bool}
 use mathlib.Core.List.{List, [], _∷_, _++_}
 use Prim.Native.Nat.{ℕ, _-_}
