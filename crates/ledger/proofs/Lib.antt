@@ -15,3 +15,8 @@ pub mod Once
 pub mod Examples
 pub mod Winter
 pub mod Witness
+pub mod Orders
+pub mod Filings
+pub mod Bounds
+pub mod Asked
+pub mod Kept

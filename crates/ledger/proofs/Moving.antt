@@ -184,25 +184,30 @@ module _ (clock : Clock) (k : Key) (reached : clock .day ≤ k .day) (counted : 
 
 -- ---- the three rules together
 
--- no rule changes a record's key
-pub key-changed : (paired : Bool) (clock : Clock) (by : ℕ) (k : Key) (ps : List ℕ) (r : Rec) → changed paired clock by k ps r .key ≡ r .key
-key-changed paired clock by k ps r = go paired
+-- what a new status and until-step leave as it was is left as it was by the rules
+pub part-changed : {A : Type 0} (part : Rec → A) → ((status until : ℕ) (x : Rec) → part (withStatus status until x) ≡ part x) →
+    (paired : Bool) (clock : Clock) (by : ℕ) (k : Key) (ps : List ℕ) (r : Rec) → part (changed paired clock by k ps r) ≡ part r
+part-changed part same paired clock by k ps r = go paired
   where
-    restates : (b : Bool) (q : ℕ) (x : Rec) → restated b q x .key ≡ x .key
-    restates true q x = refl
+    restates : (b : Bool) (q : ℕ) (x : Rec) → part (restated b q x) ≡ part x
+    restates true q x = same q (x .until) x
     restates false q x = refl
 
-    three : (b o : Bool) (x : Rec) → replaced clock k b o x .key ≡ x .key
-    three true true x = refl
-    three true false x = refl
+    three : (b o : Bool) (x : Rec) → part (replaced clock k b o x) ≡ part x
+    three true true x = same obsolete (x .until) x
+    three true false x = same updated (firstCounted clock (k .day)) x
     three false o x = refl
 
-    go : (paired : Bool) → changed paired clock by k ps r .key ≡ r .key
+    go : (paired : Bool) → part (changed paired clock by k ps r) ≡ part r
     go true =
         let x = ruleOne by k r in
         let y = ruleTwo by k ps x in
         three (replaces k y) (obsoletes clock k y) y ∙ restates (answers by k ps x) answered x ∙ restates (deletes by k r) deleted r
     go false = restates (deletes by k r) deleted r
+
+-- no rule changes a record's key
+pub key-changed : (paired : Bool) (clock : Clock) (by : ℕ) (k : Key) (ps : List ℕ) (r : Rec) → changed paired clock by k ps r .key ≡ r .key
+key-changed = part-changed (λ (r : Rec). r .key) (λ status until x. refl)
 
 module _ (clock : Clock) (k : Key) (reached : clock .day ≤ k .day) (counted : firstCounted clock (k .day) < stepsOf (k .day)) (by : ℕ) (ps : List ℕ) where
   span-before : (r : Rec) → Span clock r → Span clock (ruleTwo by k ps (ruleOne by k r))

@@ -1,4 +1,4 @@
--- Names, powers and files, read by the definitions: what is accepted, and what each damage is refused by.
+-- Names, powers and files, read by the definitions: what is accepted, and what each damage is refused by. Then notifications to write.
 use mathlib.Core.Path.{_≡_, refl}
 use mathlib.Core.Bool.{true, false}
 use mathlib.Core.List.{List, [], _∷_, _++_}
@@ -11,14 +11,17 @@ use Rattle.calendar.specs.Dates.{date, tomorrow, number, valid, monthLength, le
 use Rattle.calendar.specs.Texts.{pairOf, textOf, dayOf}
 use Rattle.calendar.specs.Steps.{lastSunday, stepsOf}
 use Rattle.calendar.specs.Labels.{labelOf}
-use Rattle.refusals.specs.declared.Refusal.the-variants.{Input}
-use Rattle.refusals.specs.declared.InputRefusal.the-variants.{Body, Header, Differs, Lines, Labels, Power, Zeros}
+use Rattle.refusals.specs.declared.Refusal.the-variants.{Input, State}
+use Rattle.refusals.specs.declared.InputRefusal.the-variants.{Name, Body, Header, Differs, Lines, Labels, Power, Zeros, Form, Range}
+use Rattle.refusals.specs.declared.StateRefusal.the-variants.{Full}
 use Rattle.refusals.specs.declared.Verdict.{Verdict}
-use Rattle.refusals.specs.declared.Verdict.the-variants.{No}
+use Rattle.refusals.specs.declared.Verdict.the-variants.{Pass, No}
 use Rattle.notification.specs.Forms.{isCode, isCategory, categoryText, digits, inPlaces, allZero}
-use Rattle.notification.specs.Writing.{nameOf, headerOf, labelsText, linesOf, bodyOf, formed}
+use Rattle.notification.specs.Writing.{nameOf, headerOf, labelsText, linesOf, bodyOf, formed, ranged, writeVerdict, writeAnswer}
 use Rattle.notification.specs.Reading.{keyIn, nameKey, headerKey, isName, isHeader, linesIn, isBody, headLine, stepLines, hasLabels, restOf, valueFrom, isPower, firstBad, powersIn, fileTests, noteIn, accepted, readFile}
+use Rattle.notification.specs.declared.Key.{Key}
 use Rattle.notification.specs.declared.Notification.{Notification}
+use Rattle.notification.specs.declared.Written.the-variants.{Lengths, Refused}
 use Rattle.notification.proofs.Lines.{joined}
 
 -- the bytes of a text
@@ -47,6 +50,17 @@ answer body = readFile theName body .verdict
 abbrev refusal : List (List ℕ) → Verdict
 refusal ls = answer (joined ls)
 
+-- so many bytes, of which the last is LF
+abbrev ended : ℕ → List ℕ
+ended n = replicate (n - 1) 48 ++ 10 ∷ []
+
+-- a key whose ceder is no code, and 48 powers that are 0
+abbrev noCode : Key
+noCode = record { ceder = text "17x100A100R00000"; acquirer = note .key .acquirer; category = note .key .category; day = note .key .day }
+
+abbrev zeros : List ℕ
+zeros = replicate 50 0
+
 pub record Examples : Type 0 where
   pub names : (isName theName ≡ true) × (isName (text "NER_17X100A100R00000_17X100A100R00001_20210120_13120.csv") ≡ true)
   pub wrong-prefix : isName (text "NEB_17X100A100R00000_17X100A100R00001_20210120_13120C.csv") ≡ false
@@ -61,6 +75,12 @@ pub record Examples : Type 0 where
   pub wrong-ends : (isPower (text "5") ≡ false) × (isPower (text "5;;") ≡ false) × (isPower (text "5 ;") ≡ false)
   pub written : (nameOf (note .key) ≡ theName) × (take 2 theLines ≡ text "17X100A100R00000;17X100A100R00001;20210120;13120C;" ∷ text "00:00;00:30;15;" ∷ [])
   pub read : readFile theName (bodyOf note) ≡ accepted note
+  -- 1 before 2: an empty body under a wrong name
+  pub name-first : readFile (text "NER.csv") [] .verdict ≡ No (Input Name 0)
+  -- "the body is empty, too long, or doesn't end with LF"; "at most 4,096 bytes"
+  pub empty-body : answer [] ≡ No (Input Body 0)
+  pub bytes-4096 : (isBody (ended 4096) ≡ true) × (isBody (replicate 4096 48) ≡ false)
+  pub bytes-4097 : (isBody (ended 4097) ≡ false) × (answer (ended 4097) ≡ No (Input Body 0))
   pub no-last-LF : answer (take (length (bodyOf note) - 1) (bodyOf note)) ≡ No (Input Body 0)
   pub two-last-LF : answer (bodyOf note ++ 10 ∷ []) ≡ No (Input Lines 0)
   pub no-header : refusal (withLine 1 "17X100A100R00000;17X100A100R00001;20210120;1312;" theLines) ≡ No (Input Header 1)
@@ -69,6 +89,21 @@ pub record Examples : Type 0 where
   pub count-before-label : refusal (take 48 (withLine 5 "01:30;02:30;30;" theLines)) ≡ No (Input Lines 0)
   pub power-before-label : refusal (withLine 3 "00:30;01:00;015;" (withLine 5 "01:30;02:30;30;" theLines)) ≡ No (Input Power 3)
   pub all-zero : answer (bodyOf (record { key = nameKey theName; steps = 48; powers = replicate 50 0 })) ≡ No (Input Zeros 0)
+
+-- A NOTIFICATION TO WRITE "refuses by 9, 10, 8, 36 in that order": with all four faults, without the first, and so on
+pub record Writer : Type 0 where
+  pub wrong-form : writeAnswer (record { key = noCode; steps = 47; powers = zeros }) 0 0 ≡ Refused (Input Form 0)
+  pub wrong-count : writeAnswer (record { key = note .key; steps = 47; powers = zeros }) 0 0 ≡ Refused (Input Range 0)
+  pub all-zero : writeAnswer (record { key = note .key; steps = 48; powers = zeros }) 0 0 ≡ Refused (Input Zeros 0)
+  pub too-short : writeAnswer note 0 0 ≡ Refused (State Full 0)
+  -- the buffers' lengths: one byte short of the name, of the body, and neither
+  pub name-short : writeAnswer note 56 819 ≡ Refused (State Full 0)
+  pub body-short : writeAnswer note 57 818 ≡ Refused (State Full 0)
+  pub exact : writeAnswer note 57 819 ≡ Lengths 57 819
+  -- 9,999 is a power and 10,000 is none; a power past the day's steps is outside its range
+  pub most : writeVerdict (record { key = note .key; steps = 48; powers = 9999 ∷ replicate 49 0 }) 57 819 ≡ Pass
+  pub too-much : writeAnswer (record { key = note .key; steps = 48; powers = 10000 ∷ replicate 49 0 }) 57 819 ≡ Refused (Input Range 0)
+  pub past-the-day : writeAnswer (record { key = note .key; steps = 48; powers = replicate 49 1 ++ 0 ∷ [] }) 57 819 ≡ Refused (Input Range 0)
 
 pub examples : Examples
 unfolding readFile fileTests noteIn isName isHeader nameKey headerKey keyIn nameOf headerOf bodyOf linesOf labelsText formed isCode isCategory categoryText same textOf dayOf date tomorrow number valid monthLength leapDays beforeYear beforeMonth pairOf stepsOf lastSunday labelOf linesIn isBody headLine stepLines hasLabels restOf valueFrom isPower digits firstBad firstFrom powersIn inPlaces allZero joined
@@ -87,6 +122,10 @@ examples =
       wrong-ends = (refl, refl, refl);
       written = (refl, refl);
       read = refl;
+      name-first = refl;
+      empty-body = refl;
+      bytes-4096 = (refl, refl);
+      bytes-4097 = (refl, refl);
       no-last-LF = refl;
       two-last-LF = refl;
       no-header = refl;
@@ -95,4 +134,20 @@ examples =
       count-before-label = refl;
       power-before-label = refl;
       all-zero = refl;
+    }
+
+pub writer : Writer
+unfolding readFile fileTests noteIn isName isHeader nameKey headerKey keyIn nameOf headerOf bodyOf linesOf labelsText formed ranged writeVerdict writeAnswer isCode isCategory categoryText same textOf dayOf date tomorrow number valid monthLength leapDays beforeYear beforeMonth pairOf stepsOf lastSunday labelOf linesIn isBody headLine stepLines hasLabels restOf valueFrom isPower digits firstBad firstFrom powersIn inPlaces allZero joined
+writer =
+    record {
+      wrong-form = refl;
+      wrong-count = refl;
+      all-zero = refl;
+      too-short = refl;
+      name-short = refl;
+      body-short = refl;
+      exact = refl;
+      most = refl;
+      too-much = refl;
+      past-the-day = refl;
     }

@@ -12,3 +12,4 @@ pub mod Bodies
 pub mod Tables
 pub mod TwoWays
 pub mod Tested
+pub mod Orders

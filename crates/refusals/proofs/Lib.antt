@@ -1,2 +1,3 @@
--- What is true of lists of tests.
+-- What is true of refusals and of lists of tests.
 pub mod Tests
+pub mod Tables

@@ -107,10 +107,11 @@ pub record Edge : Type 0 where
   pub file : lineOf (70 ∷ 44 ∷ 0 ∷ 44 ∷ 255 ∷ 13 ∷ []) ≡ file (0 ∷ []) (255 ∷ 13 ∷ [])
   -- `F,a,b,c`
   pub file-and-more : lineOf (70 ∷ 44 ∷ 97 ∷ 44 ∷ 98 ∷ 44 ∷ 99 ∷ []) ≡ unknown
-  -- 51 powers are 51 powers; 512 bytes are a line, and 513 are none
+  -- 51 powers are 51 powers; 512 bytes are a line, and 513 are none: `C,` and a text of 510 or 511 bytes
   pub powers-51 : lineOf (sevens 51) ≡ load [] [] 0 9 (replicate 51 7)
   pub bytes-512 : lineOf (sevens 249) ≡ load [] [] 0 9 (replicate 249 7)
-  pub bytes-514 : lineOf (sevens 250) ≡ unknown
+  pub category-of-510 : lineOf (67 ∷ 44 ∷ replicate 510 49) ≡ enrolCategory (replicate 510 49)
+  pub bytes-513 : lineOf (67 ∷ 44 ∷ replicate 511 49) ≡ unknown
   -- `10,ok,256,V,33`
   pub answer-filed : answerLine 10 (saidOf (Filed 256 86 33)) ≡ 49 ∷ 48 ∷ 44 ∷ 111 ∷ 107 ∷ 44 ∷ 50 ∷ 53 ∷ 54 ∷ 44 ∷ 86 ∷ 44 ∷ 51 ∷ 51 ∷ 10 ∷ []
   -- `18446744073709551615,no,6,50`
@@ -167,7 +168,8 @@ edge =
       file-and-more = refl;
       powers-51 = refl;
       bytes-512 = refl;
-      bytes-514 = refl;
+      category-of-510 = refl;
+      bytes-513 = refl;
       answer-filed = refl;
       answer-place = refl;
       answer-largest = refl;

@@ -1,2 +1,3 @@
 -- What the lines of a script do.
 pub mod Spans
+pub mod Examples
