@@ -11,4 +11,5 @@ pub mod Places
 pub mod Bodies
 pub mod Tables
 pub mod TwoWays
+pub mod Buffers
 pub mod Tested
