@@ -1,0 +1,2 @@
+-- What is true of the reader's and the writer's calls.
+pub mod RoundTrip
