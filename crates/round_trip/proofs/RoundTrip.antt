@@ -5,7 +5,7 @@ use borrow.Fn.World
 use contract.Lifetimes
 use denote.Triple.Clauses
 use denote.Ref.{now}
-use mathlib.Core.Path.{_≡_, refl, sym, _∙_}
+use mathlib.Core.Path.{_≡_, sym, _∙_}
 use mathlib.Core.List.{List, _++_}
 use Prim.Native.Nat.{ℕ, _≤_}
 use native.Mathlib.Omega.{arith}
@@ -14,7 +14,7 @@ use Rattle.refusals.specs.declared.Refusal.{Refusal}
 use Rattle.refusals.specs.declared.Verdict.{Verdict}
 use Rattle.refusals.specs.declared.Verdict.the-variants.{Pass}
 use Rattle.notification.specs.Forms.{places}
-use Rattle.notification.specs.Writing.{nameOf, bodyOf, writeVerdict, written, Writes}
+use Rattle.notification.specs.Writing.{nameOf, bodyOf, written, Writes}
 use Rattle.notification.specs.Reading.{accepted, readFile}
 use Rattle.notification.specs.declared.Notification.{Notification}
 use Rattle.notification.specs.declared.Reading.{Reading}
