@@ -11,5 +11,6 @@ pub mod Places
 pub mod Bodies
 pub mod Tables
 pub mod TwoWays
+pub mod Buffers
 pub mod Tested
 pub mod Orders

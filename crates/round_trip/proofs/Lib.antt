@@ -1,0 +1,3 @@
+-- What is true of the reader's and the writer's calls.
+pub mod RoundTrip
+pub mod Witness
