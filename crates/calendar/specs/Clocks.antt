@@ -1,13 +1,11 @@
 -- The clock and the first counted step. Document 01, "Days and steps": "The clock is a day and an elapsed minute below 30
 -- times the day's steps." "First counted step at clock minute m: 0 for a day after the clock's day; floor(m/30)+2 for the
 -- clock's day."
-use mathlib.Core.Bool.{Bool, not, cond, _&&_, _||_}
+use mathlib.Core.Bool.{Bool, cond, _&&_, _||_}
 use Prim.Native.Nat.{ℕ, _+_, _*_, _/_}
 use lib.Dec.{leb, ltb, eqb}
 use Rattle.calendar.specs.Steps.{stepMinutes, stepsOf}
 use Rattle.calendar.specs.declared.clock.Clock.{Clock}
-use Rattle.calendar.specs.declared.clock.Advance.{Advance}
-use Rattle.calendar.specs.declared.clock.Advance.the-variants.{Moved, NoMoment, Back}
 
 -- "The ledger": "A fresh register .. with its clock at day 0, minute 0"
 abbrev pub freshClock : Clock
@@ -29,7 +27,3 @@ isMoment clock = ltb (clock .minute) (stepMinutes * stepsOf (clock .day))
 -- refusal 38, "the clock would go back": one moment is before another
 abbrev pub isBefore : Clock → Clock → Bool
 isBefore a b = ltb (a .day) (b .day) || (eqb (a .day) (b .day) && ltb (a .minute) (b .minute))
-
--- "The ledger": "advance the clock (the same moment is accepted)", with refusals 10 and 38 in this order
-unfoldable pub advance : Clock → Clock → Advance
-advance clock to = cond (not (isMoment to)) NoMoment (cond (isBefore to clock) Back (Moved to))

@@ -1,6 +1,7 @@
-// The clock: "a day and an elapsed minute below 30 times the day's steps", a value whose methods take it and answer the next one.
+// The clock: "a day and an elapsed minute below 30 times the day's steps", a value. The next one is what the
+// register's advance leaves in its head.
 ghost use mathlib.Core.Path.{_≡_};
-ghost use Rattle.calendar.specs.Clocks.{freshClock, firstCounted, counts, isMoment, isBefore, advance};
+ghost use Rattle.calendar.specs.Clocks.{freshClock, firstCounted, counts, isMoment, isBefore};
 use crate::steps::STEP_MINUTES;
 use crate::steps::steps_of;
 
@@ -12,13 +13,6 @@ const NEUTRAL_STEPS: u32 = 2;
 pub struct Clock {
     pub day: u32,
     pub minute: u32,
-}
-
-// What comes of moving the clock.
-pub enum Advance {
-    Moved(Clock),
-    NoMoment,
-    Back,
 }
 
 impl Clock {
@@ -61,18 +55,5 @@ impl Clock {
         ensures { λ r. ⌜ r ≡ isBefore self other ⌝ }
     {
         (self.day < other.day) | ((self.day == other.day) & (self.minute < other.minute))
-    }
-
-    // The clock at a later moment, or at the same one.
-    pub fn advanced(self, to: Clock) -> Advance
-        ensures { λ r. ⌜ r ≡ advance self to ⌝ }
-    {
-        if !to.is_moment() {
-            return Advance::NoMoment;
-        }
-        if to.is_before(self) {
-            return Advance::Back;
-        }
-        Advance::Moved(to)
     }
 }

@@ -5,7 +5,6 @@ use crate::printing::put;
 use crate::printing::put_day;
 use crate::printing::put_label;
 use crate::printing::put_with;
-use calendar::Advance;
 use calendar::Clock;
 use calendar::DAYS;
 
@@ -90,10 +89,12 @@ fn advance_line(from: Clock, to: Clock) {
     put_with(b" minute ", from.minute);
     put_with(b" to day ", to.day);
     put_with(b" minute ", to.minute);
-    match from.advanced(to) {
-        Advance::Moved(_) => put(b" moves\n"),
-        Advance::NoMoment => put(b" is no moment\n"),
-        Advance::Back => put(b" would go back\n"),
+    if !to.is_moment() {
+        put(b" is no moment\n");
+    } else if to.is_before(from) {
+        put(b" would go back\n");
+    } else {
+        put(b" moves\n");
     }
 }
 

@@ -47,7 +47,6 @@ fn answer_block(
     marks: &mut [[u8; 4]; 256],
     rows: &mut [[u16; 50]; 256],
     loads: &mut [[u16; 50]; 64],
-    powers: &mut [u32; 256],
     body: &mut [u8],
     number: u64,
     input: &[u8],
@@ -87,14 +86,14 @@ fn answer_block(
             continue;
         }
         if !may_call(line) {
-            let asking = ask(head, &*keys, &*marks, &*rows, &*loads, &mut *powers, line);
+            let asking = ask(head, &*keys, &*marks, &*rows, &*loads, line);
             if asking.asks {
                 out = put(output, out, number, asking.said);
                 at = stop + 1;
                 continue;
             }
         }
-        let read = body_of(line, &mut *powers, &mut *body);
+        let read = body_of(line, &mut *body);
         let n = read.length;
         let turn = answer(
             head,
@@ -102,7 +101,6 @@ fn answer_block(
             marks,
             rows,
             loads,
-            powers,
             line,
             read.readable,
             &body[..n],
@@ -147,7 +145,6 @@ pub fn run(
     marks: &mut [[u8; 4]; 256],
     rows: &mut [[u16; 50]; 256],
     loads: &mut [[u16; 50]; 64],
-    powers: &mut [u32; 256],
     body: &mut [u8],
     input: &mut [u8; BLOCK],
     output: &mut [u8; WAITING],
@@ -168,7 +165,6 @@ pub fn run(
             marks,
             rows,
             loads,
-            powers,
             body,
             number,
             &*input,
@@ -189,7 +185,6 @@ pub fn run(
         marks,
         rows,
         loads,
-        powers,
         body,
         number,
         &*input,

@@ -56,7 +56,7 @@ fn read_named(name: &[u8], body: &mut [u8]) -> Body
 }
 
 // The body of the file that a line names. A line that names none has none.
-pub fn body_of(line: &[u8], powers: &mut [u32; 256], body: &mut [u8]) -> Body
+pub fn body_of(line: &[u8], body: &mut [u8]) -> Body
     ensures { λ r. ⌜ r .length ≤ length (now (body .exit)) ⌝ }
 {
     if line.len() == 0 {
@@ -65,7 +65,8 @@ pub fn body_of(line: &[u8], powers: &mut [u32; 256], body: &mut [u8]) -> Body
     if line[0] != b'F' {
         return unread();
     }
-    let asked = read_line(line, powers);
+    let mut powers = [0u32; 256];
+    let asked = read_line(line, &mut powers);
     if let Line::File(submitter) = asked {
         let start = submitter as usize + 1;
         return read_named(&line[start..], body);

@@ -9,7 +9,6 @@ fn main() {
     let mut marks = [[0u8; 4]; 256];
     let mut rows = [[0u16; 50]; 256];
     let mut loads = [[0u16; 50]; 64];
-    let mut powers = [0u32; 256];
     let mut body = [0u8; 4097];
     let mut input = io::large_buffer();
     let mut output = [0u8; 16384];
@@ -18,7 +17,6 @@ fn main() {
         &mut marks,
         &mut rows,
         &mut loads,
-        &mut powers,
         &mut body,
         &mut input,
         &mut output,

@@ -4,7 +4,7 @@ use mathlib.Core.Bool.{Bool, true, false, not}
 use mathlib.Core.List.{List}
 use Prim.Native.Nat.{ℕ, _+_, _-_, _≤_, min}
 use lib.ListN.{length, take, drop}
-use lib.Seq.{length-take-le}
+use lib.Seq.{length-take-le, length-sets}
 use native.Mathlib.Omega.{arith}
 use Rattle.ledger.specs.Ledger.{Ledger}
 use Rattle.ledger.specs.Call as Call
@@ -83,41 +83,45 @@ pub engaged-cut : (l : Ledger) (line : List ℕ) (actor category day s first sec
 unfolding engagedBy
 engaged-cut l line actor category day s first second end last e f g h = rw (h, g, f, e)
 
--- the two parts of what is told of a line that may only ask
-pub asks-as : {x : Asking} {a b : Bool} {y z : Said} → x ≡ record { asks = a; said = y } → (a ≡ b) × (y ≡ z) → (x .asks ≡ b) × (x .said ≡ z)
-asks-as e p = (ap (λ x. x .asks) e ∙ p .0, ap (λ x. x .said) e ∙ p .1)
+-- what is told of a line that may only ask
+abbrev pub asking : Ledger → Asked → Asking
+asking l a = record { asks = onlyAsks a; said = askStep l a }
 
-pub asks-said : {a b : Bool} {x y z : Said} → (a ≡ b) × (y ≡ z) → x ≡ z → (a ≡ b) × (x ≡ z)
-asks-said p e = (p .0, e)
+-- a line that is a call
+abbrev pub a-call : Asking
+a-call = record { asks = false; said = saidRefused noCall }
 
 -- what a line that only asks says, by what was read of it
 module _ (l : Ledger) (line powers : List ℕ) where
-  pub asks-by : {r form : Line} {before : List ℕ} {a : Asked} {asks : Bool} {said : Said} → Read line before r powers a → r ≡ form →
-      (asks ≡ onlyAsks (asked line form powers)) × (said ≡ askStep l (asked line form powers)) → (asks ≡ onlyAsks a) × (said ≡ askStep l a)
-  asks-by w e s =
-      let q = ap (λ y. asked line y powers) (sym e) ∙ w .says in
-      (s .0 ∙ ap onlyAsks q, s .1 ∙ ap (askStep l) q)
+  pub asks-by : {r form : Line} {before : List ℕ} {a : Asked} {x : Asking} → Read line before r powers a → r ≡ form →
+      x ≡ asking l (asked line form powers) → x ≡ asking l a
+  asks-by w e s = s ∙ ap (asking l) (ap (λ y. asked line y powers) (sym e) ∙ w .says)
 
-  pub asks-advance : (day minute : ℕ) → (false ≡ onlyAsks (asked line (Advance day minute) powers)) × (saidRefused noCall ≡ askStep l (asked line (Advance day minute) powers))
-  unfolding asked onlyAsks askStep
-  asks-advance day minute = (refl, refl)
+  -- a line that only asks, and what it says
+  pub asks-said : (form : Line) {x y : Said} → x ≡ askStep l (asked line form powers) →
+      (true ≡ onlyAsks (asked line form powers)) × (y ≡ askStep l (asked line form powers)) → record { asks = true; said = x } ≡ asking l (asked line form powers)
+  asks-said form e p =
+      ap (λ s. record { asks = true; said = s }) e ∙ ap (λ b. record { asks = b; said = askStep l (asked line form powers) }) (p .0)
 
-  pub asks-actor : (code first last : ℕ) → (false ≡ onlyAsks (asked line (EnrolActor code first last) powers)) × (saidRefused noCall ≡ askStep l (asked line (EnrolActor code first last) powers))
+  pub asks-advance : (day minute : ℕ) → a-call ≡ asking l (asked line (Advance day minute) powers)
   unfolding asked onlyAsks askStep
-  asks-actor code first last = (refl, refl)
+  asks-advance day minute = refl
 
-  pub asks-category : (false ≡ onlyAsks (asked line EnrolCategory powers)) × (saidRefused noCall ≡ askStep l (asked line EnrolCategory powers))
+  pub asks-actor : (code first last : ℕ) → a-call ≡ asking l (asked line (EnrolActor code first last) powers)
   unfolding asked onlyAsks askStep
-  asks-category = (refl, refl)
+  asks-actor code first last = refl
 
-  pub asks-load : (actor category day approved count : ℕ) →
-      (false ≡ onlyAsks (asked line (Load actor category day approved count) powers)) × (saidRefused noCall ≡ askStep l (asked line (Load actor category day approved count) powers))
+  pub asks-category : a-call ≡ asking l (asked line EnrolCategory powers)
   unfolding asked onlyAsks askStep
-  asks-load actor category day approved count = (refl, refl)
+  asks-category = refl
 
-  pub asks-file : (submitter : ℕ) → (false ≡ onlyAsks (asked line (File submitter) powers)) × (saidRefused noCall ≡ askStep l (asked line (File submitter) powers))
+  pub asks-load : (actor category day approved count : ℕ) → a-call ≡ asking l (asked line (Load actor category day approved count) powers)
   unfolding asked onlyAsks askStep
-  asks-file submitter = (refl, refl)
+  asks-load actor category day approved count = refl
+
+  pub asks-file : (submitter : ℕ) → a-call ≡ asking l (asked line (File submitter) powers)
+  unfolding asked onlyAsks askStep
+  asks-file submitter = refl
 
   pub asks-engagement : (actor category day s : ℕ) →
       (true ≡ onlyAsks (asked line (Engagement actor category day s) powers)) ×
@@ -169,3 +173,7 @@ module _ (r : Register) (readable : Bool) (body line powers : List ℕ) where
 -- the spans of a line that was read lie in it
 pub within-form : {line before powers : List ℕ} {r form : Line} {a : Asked} → Read line before r powers a → r ≡ form → Within (length line) form
 within-form {line} w e = subst (Within (length line)) e (w .within)
+
+-- a line that was read leaves as many places for powers as there were
+pub places-kept : {line before powers : List ℕ} {r : Line} {a : Asked} → Read line before r powers a → length powers ≡ length before
+places-kept w = ap length (w .holds) ∙ simp length-sets

@@ -1,9 +1,7 @@
 // A line answered.
 ghost use mathlib.Core.Path.{_≡_};
-ghost use lib.ListN.{length};
-ghost use lib.Seq.{sets};
 ghost use Rattle.turns.specs.Told.{tells};
-ghost use Rattle.script.specs.Lines.{lineOf, powersOf};
+ghost use Rattle.script.specs.Lines.{lineOf};
 ghost use Rattle.session.specs.Lines.{lineStep};
 use crate::asking;
 use crate::calling;
@@ -12,22 +10,21 @@ use script::reading::Line;
 use script::reading::read_line;
 use turns::Turn;
 
-// Answers a line, which has no LF. `readable` says whether the file that the line names can be read, and `body` has its bytes. The
-// powers of a load are put into lent places, the rest of them untouched.
+// Answers a line, which has no LF. `readable` says whether the file that the line names can be read, and `body` has its bytes.
 pub fn answer(
     head: Head,
     keys: &mut [u32; 256],
     marks: &mut [[u8; 4]; 256],
     rows: &mut [[u16; 50]; 256],
     loads: &mut [[u16; 50]; 64],
-    powers: &mut [u32; 256],
     line: &[u8],
     readable: bool,
     body: &[u8],
 ) -> Turn
-    ensures { λ r. ⌜ (tells (record { head = r .head; columns = record { keys = now (keys .exit); marks = now (marks .exit); rows = now (rows .exit) }; loads = now (loads .exit) }) (r .said) ≡ lineStep (record { head = head; columns = record { keys = now (keys .entry); marks = now (marks .entry); rows = now (rows .entry) }; loads = now (loads .entry) }) readable (now (body .entry)) (lineOf (now (line .entry)))) × (now (powers .exit) ≡ sets (now (powers .entry)) 0 (powersOf (lineOf (now (line .entry))))) ⌝ }
+    ensures { λ r. ⌜ tells (record { head = r .head; columns = record { keys = now (keys .exit); marks = now (marks .exit); rows = now (rows .exit) }; loads = now (loads .exit) }) (r .said) ≡ lineStep (record { head = head; columns = record { keys = now (keys .entry); marks = now (marks .entry); rows = now (rows .entry) }; loads = now (loads .entry) }) readable (now (body .entry)) (lineOf (now (line .entry))) ⌝ }
 {
-    let asked = read_line(line, &mut *powers);
+    let mut powers = [0u32; 256];
+    let asked = read_line(line, &mut powers);
     match asked {
         Line::Advance(day, minute) => calling::advance(head, day, minute),
         Line::EnrolActor(code, first, last) => calling::enrol_actor(head, line, code, first, last),
@@ -35,7 +32,7 @@ pub fn answer(
         Line::Load(actor, category, day, approved, count) => calling::load(
             head,
             loads,
-            &*powers,
+            &powers,
             line,
             actor,
             category,

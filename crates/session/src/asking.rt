@@ -4,11 +4,10 @@ ghost use mathlib.Core.Bool.{Bool};
 ghost use mathlib.Core.List.{List};
 ghost use Prim.Native.Nat.{ℕ, min};
 ghost use lib.ListN.{length};
-ghost use lib.Seq.{sets};
 ghost use Rattle.answers.specs.Values.{saidRefused};
 ghost use Rattle.register.specs.View.{view};
 ghost use Rattle.script.specs.Spans.{asked, Within};
-ghost use Rattle.script.specs.Lines.{lineOf, powersOf};
+ghost use Rattle.script.specs.Lines.{lineOf};
 ghost use Rattle.session.specs.Lines.{onlyAsks, askStep, engagedBy};
 use answers::Said;
 use answers::of_engaged;
@@ -126,19 +125,19 @@ fn a_call() -> Asking
     }
 }
 
-// Answers a line that only asks, and tells it from one that is a call. The powers of a load are put into lent places, as `answer` does.
+// Answers a line that only asks, and tells it from one that is a call.
 pub fn ask(
     head: Head,
     keys: &[u32; 256],
     marks: &[[u8; 4]; 256],
     rows: &[[u16; 50]; 256],
     loads: &[[u16; 50]; 64],
-    powers: &mut [u32; 256],
     line: &[u8],
 ) -> Asking
-    ensures { λ r. ⌜ ((r .asks ≡ onlyAsks (lineOf (now (line .entry)))) × (r .said ≡ askStep (view head (record { keys = now (keys .entry); marks = now (marks .entry); rows = now (rows .entry) }) (now (loads .entry))) (lineOf (now (line .entry))))) × (now (powers .exit) ≡ sets (now (powers .entry)) 0 (powersOf (lineOf (now (line .entry))))) ⌝ }
+    ensures { λ r. ⌜ r ≡ record { asks = onlyAsks (lineOf (now (line .entry))); said = askStep (view head (record { keys = now (keys .entry); marks = now (marks .entry); rows = now (rows .entry) }) (now (loads .entry))) (lineOf (now (line .entry))) } ⌝ }
 {
-    let asked = read_line(line, powers);
+    let mut powers = [0u32; 256];
+    let asked = read_line(line, &mut powers);
     match asked {
         Line::Advance(day, minute) => a_call(),
         Line::EnrolActor(code, first, last) => a_call(),

@@ -8,10 +8,10 @@ use Rattle.register_script.proofs.blocks.run.Statement.{statement}
 use Rattle.register_script.proofs.blocks.run.Tie as tie
 
 abbrev Inv-loop : tie.InvT-loop
-Inv-loop keys₀ marks₀ rows₀ loads₀ powers₀ body₀ input₀ output₀ head₀ number₀ held₀ turns₀ keys marks rows loads powers body input output head number held turns = (held ≤ 513) × (length body ≡ length body₀)
+Inv-loop keys₀ marks₀ rows₀ loads₀ body₀ input₀ output₀ head₀ number₀ held₀ turns₀ keys marks rows loads body input output head number held turns = (held ≤ 513) × (length body ≡ length body₀)
 
 abbrev μ-loop : tie.MeasureT-loop
-μ-loop keys₀ marks₀ rows₀ loads₀ powers₀ body₀ input₀ output₀ head₀ number₀ held₀ turns₀ keys marks rows loads powers body input output head number held turns = turns
+μ-loop keys₀ marks₀ rows₀ loads₀ body₀ input₀ output₀ head₀ number₀ held₀ turns₀ keys marks rows loads body input output head number held turns = turns
 
 fresh-requires : tie.Need-fresh-requires Inv-loop μ-loop
 fresh-requires c κs = search needs
@@ -32,10 +32,10 @@ keep-requires : tie.Need-keep-requires Inv-loop μ-loop
 keep-requires c κs = search needs
 
 loop-less : tie.Need-loop-less Inv-loop μ-loop
-loop-less c = omega (arith, c .before .before .before .before .before .before .before .before .before .before .before .before .before .before .before .before .before .before .loop-test .taken)
+loop-less c = omega (arith, c .before .before .before .before .before .before .before .before .before .before .before .before .before .before .before .before .before .loop-test .taken)
 
 loop-again : tie.Need-loop-again Inv-loop μ-loop
-loop-again c = (c .keep .ensures, c .before .before .before .before .body .given ∙ c .before .before .before .before .before .before .before .before .before .before .before .before .before .before .before .before .before .before .before .loop .inv .1)
+loop-again c = (c .keep .ensures, c .before .before .before .before .body .given ∙ c .before .before .before .before .before .before .before .before .before .before .before .before .before .before .before .before .before .before .loop .inv .1)
 
 same-length : tie.Need-same-length Inv-loop μ-loop
 same-length c = search needs

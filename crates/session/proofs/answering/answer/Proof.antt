@@ -1,5 +1,5 @@
 use mathlib.Core.Path.{_≡_, sym, ap, _∙_}
-use Rattle.session.proofs.Spans.{answered, within-form, unreadable-line, readable-line, engagement-line, record-line}
+use Rattle.session.proofs.Spans.{answered, within-form, places-kept, unreadable-line, readable-line, engagement-line, record-line}
 use Rattle.turns.specs.Told.{tells}
 use borrow.Author.Needs.{needs}
 use Rattle.session.proofs.answering.answer.Statement.{statement}
@@ -16,113 +16,89 @@ use Rattle.session.proofs.calling.file.Reads as file-reads
 use Rattle.session.proofs.calling.load.Reads as load-reads
 use Rattle.session.proofs.calling.no_call.Reads as no-call-reads
 
--- src/answering.rt:31:9
 read-line-requires : tie.Need-read-line-requires
 read-line-requires c κs = search needs
 
--- src/answering.rt:33:23
 enum-known-asked : tie.Need-enum-known-asked
 enum-known-asked c = search needs
 
--- src/answering.rt:33:39
 advance-requires : tie.Need-advance-requires
 advance-requires c κs = search needs
 
--- src/answering.rt:34:26
 enum-known-asked-2 : tie.Need-enum-known-asked-2
 enum-known-asked-2 c = search needs
 
--- src/answering.rt:34:48
 enrol-actor-requires : tie.Need-enrol-actor-requires
 enrol-actor-requires c κs = within-form (c .before .before .before .read-line .ensures) (c .before .asked2 .given .1)
 
--- src/answering.rt:35:32
 enum-told : tie.Need-enum-told
 enum-told c = search needs
 
--- src/answering.rt:35:32
 enrol-category-requires : tie.Need-enrol-category-requires
 enrol-category-requires c κs = within-form (c .before .before .read-line .ensures) (c .enum-told .given .1)
 
--- src/answering.rt:36:20
 enum-known-asked-3 : tie.Need-enum-known-asked-3
 enum-known-asked-3 c = search needs
 
--- src/answering.rt:36:62
-load-requires : tie.Need-load-requires
-load-requires c κs = (within-form (c .before .before .before .before .before .before .read-line .ensures) (c .before .before .before .before .asked3 .given .1), c .load-arg3 .given .0)
+slice-aggregate-load : tie.Need-slice-aggregate-load
+slice-aggregate-load c = sym (places-kept (c .before .before .before .before .before .read-line .ensures))
 
--- src/answering.rt:47:20
+load-requires : tie.Need-load-requires
+load-requires c κs = (within-form (c .before .before .before .before .before .read-line .ensures) (c .before .before .before .asked3 .given .1), places-kept (c .before .before .before .before .before .read-line .ensures))
+
 enum-known-asked-4 : tie.Need-enum-known-asked-4
 enum-known-asked-4 c = search needs
 
--- src/answering.rt:49:17
 no-call-requires : tie.Need-no-call-requires
 no-call-requires c κs = search needs
 
--- src/answering.rt:49:17
 returns : tie.Need-returns
-returns c = (answered _ _ _ _ _ (c .before .before .before .before .before .read-line .ensures) (c .before .before .before .asked4 .given .1) (c .no-call .ensures _ _ _ _ _ _ ∙ unreadable-line _ _ _ _ _ _ (c .before .if1 .taken)), c .before .before .before .before .before .read-line .ensures .holds)
+returns c = answered _ _ _ _ _ (c .before .before .before .before .before .read-line .ensures) (c .before .before .before .asked4 .given .1) (c .no-call .ensures _ _ _ _ _ _ ∙ unreadable-line _ _ _ _ _ _ (c .before .if1 .taken))
 
--- src/answering.rt:51:13
 file-requires : tie.Need-file-requires
 file-requires c κs = within-form (c .before .before .before .before .before .before .before .before .read-line .ensures) (c .before .before .before .before .before .before .asked4 .given .1)
 
--- src/answering.rt:53:26
 enum-known-asked-5 : tie.Need-enum-known-asked-5
 enum-known-asked-5 c = search needs
 
--- src/answering.rt:54:17
 engagement-requires : tie.Need-engagement-requires
 engagement-requires c κs = within-form (c .before .before .before .before .before .before .before .read-line .ensures) (c .before .before .before .before .before .asked5 .given .1)
 
--- src/answering.rt:71:24
 enum-known-asked-6 : tie.Need-enum-known-asked-6
 enum-known-asked-6 c = search needs
 
--- src/answering.rt:72:17
 record-requires : tie.Need-record-requires
 record-requires c κs = within-form (c .before .before .before .before .before .before .read-line .ensures) (c .before .before .before .before .asked6 .given .1)
 
--- src/answering.rt:78:26
 enum-told-2 : tie.Need-enum-told-2
 enum-told-2 c = search needs
 
--- src/answering.rt:78:26
 no-call-requires-2 : tie.Need-no-call-requires-2
 no-call-requires-2 c κs = search needs
 
--- src/answering.rt:18:1
 returns-2 : tie.Need-returns-2
-returns-2 c = (answered _ _ _ _ _ (c .before .before .before .before .read-line .ensures) (c .before .before .asked .given .1) (c .advance .ensures _ _ _ _ _ _), c .before .before .before .before .read-line .ensures .holds)
+returns-2 c = answered _ _ _ _ _ (c .before .before .before .before .read-line .ensures) (c .before .before .asked .given .1) (c .advance .ensures _ _ _ _ _ _)
 
--- src/answering.rt:18:1
 returns-3 : tie.Need-returns-3
-returns-3 c = (answered _ _ _ _ _ (c .before .before .before .before .read-line .ensures) (c .before .before .asked2 .given .1) (c .enrol-actor .ensures _ _ _ _ _), c .before .before .before .before .read-line .ensures .holds)
+returns-3 c = answered _ _ _ _ _ (c .before .before .before .before .read-line .ensures) (c .before .before .asked2 .given .1) (c .enrol-actor .ensures _ _ _ _ _)
 
--- src/answering.rt:18:1
 returns-4 : tie.Need-returns-4
-returns-4 c = (answered _ _ _ _ _ (c .before .before .before .read-line .ensures) (c .before .enum-told .given .1) (c .enrol-category .ensures _ _ _ _ _), c .before .before .before .read-line .ensures .holds)
+returns-4 c = answered _ _ _ _ _ (c .before .before .before .read-line .ensures) (c .before .enum-told .given .1) (c .enrol-category .ensures _ _ _ _ _)
 
--- src/answering.rt:18:1
 returns-5 : tie.Need-returns-5
-returns-5 c = (answered _ _ _ _ _ (c .before .before .before .before .before .before .before .read-line .ensures) (c .before .before .before .before .before .asked3 .given .1) (c .load .ensures _ _ _), c .before .before .before .before .before .before .before .read-line .ensures .holds)
+returns-5 c = answered _ _ _ _ _ (c .before .before .before .before .before .before .read-line .ensures) (c .before .before .before .before .asked3 .given .1) (c .load .ensures _ _ _)
 
--- src/answering.rt:18:1
 returns-6 : tie.Need-returns-6
-returns-6 c = (answered _ _ _ _ _ (c .before .before .before .before .before .before .before .before .before .read-line .ensures) (c .before .before .before .before .before .before .before .asked4 .given .1) (c .file .ensures _ ∙ readable-line _ _ _ _ (c .before .before .before .before .before .if1 .left)), c .before .before .before .before .before .before .before .before .before .read-line .ensures .holds)
+returns-6 c = answered _ _ _ _ _ (c .before .before .before .before .before .before .before .before .before .read-line .ensures) (c .before .before .before .before .before .before .before .asked4 .given .1) (c .file .ensures _ ∙ readable-line _ _ _ _ (c .before .before .before .before .before .if1 .left))
 
--- src/answering.rt:18:1
 returns-7 : tie.Need-returns-7
-returns-7 c = (answered _ _ _ _ _ (c .before .before .before .before .before .before .before .before .read-line .ensures) (c .before .before .before .before .before .before .asked5 .given .1) (ap (tells _) (c .engagement .ensures _) ∙ engagement-line _ _ _ _ _ _ _ _ _), c .before .before .before .before .before .before .before .before .read-line .ensures .holds)
+returns-7 c = answered _ _ _ _ _ (c .before .before .before .before .before .before .before .before .read-line .ensures) (c .before .before .before .before .before .before .asked5 .given .1) (ap (tells _) (c .engagement .ensures _) ∙ engagement-line _ _ _ _ _ _ _ _ _)
 
--- src/answering.rt:18:1
 returns-8 : tie.Need-returns-8
-returns-8 c = (answered _ _ _ _ _ (c .before .before .before .before .before .before .before .read-line .ensures) (c .before .before .before .before .before .asked6 .given .1) (ap (tells _) (c .«record» .ensures _ _) ∙ record-line _ _ _ _ _ _ _), c .before .before .before .before .before .before .before .read-line .ensures .holds)
+returns-8 c = answered _ _ _ _ _ (c .before .before .before .before .before .before .before .read-line .ensures) (c .before .before .before .before .before .asked6 .given .1) (ap (tells _) (c .«record» .ensures _ _) ∙ record-line _ _ _ _ _ _ _)
 
--- src/answering.rt:18:1
 returns-9 : tie.Need-returns-9
-returns-9 c = (answered _ _ _ _ _ (c .before .before .before .read-line .ensures) (c .before .enum-told2 .given .1) (c .no-call2 .ensures _ _ _ _ _ _), c .before .before .before .read-line .ensures .holds)
+returns-9 c = answered _ _ _ _ _ (c .before .before .before .read-line .ensures) (c .before .enum-told2 .given .1) (c .no-call2 .ensures _ _ _ _ _ _)
 
 pub answer-spec : {M : Type 1} → statement M
 answer-spec =
@@ -136,6 +112,7 @@ answer-spec =
     enum-told
     enrol-category-requires
     enum-known-asked-3
+    slice-aggregate-load
     load-requires
     enum-known-asked-4
     no-call-requires
