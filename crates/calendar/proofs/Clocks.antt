@@ -2,7 +2,7 @@
 -- before itself, and what doesn't count at one moment doesn't count at a later one.
 use mathlib.Core.Path.{_≡_, refl}
 use mathlib.Core.Bool.{Bool, true, false, _&&_}
-use Prim.Native.Nat.{ℕ, _+_, _/_, _<_, _≤_}
+use Prim.Native.Nat.{ℕ, _+_, _*_, _/_, _<_, _≤_}
 use native.Mathlib.Omega.{arith}
 use lib.Dec.{leb, ltb, eqb}
 use borrow.Author.Tests.{ltb-true, ltb-false, leb-true, lt-ltb, le-ltb, le-leb, lt-leb, eq-eqb}
@@ -76,6 +76,15 @@ counts-earlier a b day step e k = go (ltb (a .day) day) refl
         counts-from a day step (omega arith) (omega arith)
 
 -- ---- isMoment
+
+-- "Step k, from 0, covers minutes 30k to 30k+30 elapsed since local midnight": the step that a moment lies in is one of its day's, and the
+-- first counted step of that day is the second after it
+pub minute-in-step : (c : Clock) → isMoment c ≡ true →
+    let k = c .minute / stepMinutes in
+    (k < stepsOf (c .day)) × (stepMinutes * k ≤ c .minute) × (c .minute < stepMinutes * k + stepMinutes) × (firstCounted c (c .day) ≡ k + 2)
+minute-in-step c e =
+    let m = ltb-true (c .minute) (stepMinutes * stepsOf (c .day)) e in
+    (omega arith, omega arith, omega arith, first-today c)
 
 -- a fresh clock stands at a moment
 pub fresh-moment : isMoment freshClock ≡ true
