@@ -2,12 +2,12 @@
 use mathlib.Core.Path.{_≡_, refl, sym, subst, _∙_, ap, ap₂}
 use mathlib.Core.Bool.{Bool, true, false, cond, not, _&&_, _||_, false≢true}
 use mathlib.Core.List.{List, []}
-use Prim.Native.Nat.{ℕ, _+_, _≤_, _<_}
+use Prim.Native.Nat.{ℕ, _+_, _<_}
 use native.Mathlib.Omega.{arith}
 use native.Mathlib.Numerals.{add-one}
 use native.Mathlib.Decide.{ℕ-discrete}
 use lib.Dec.{eqb}
-use lib.ListN.{length, getD, set, length-set}
+use lib.ListN.{length, getD, set}
 use lib.Seq.{getD-set-same, getD-set-other, set-getD}
 use borrow.Author.Tests.{eq-eqb, ne-eqb}
 use Rattle.calendar.specs.Clocks.{firstCounted}
@@ -15,6 +15,7 @@ use Rattle.calendar.specs.declared.clock.Clock.{Clock}
 use Rattle.ledger.specs.Statuses.{created, answered, deleted, validated, updated, obsolete}
 use Rattle.ledger.specs.Ledger.{Key, Rec, underKey}
 use Rattle.ledger.specs.Filing.{withStatus, ruleOne, ruleTwo, ruleThree, deletes, answers, replaces, obsoletes, samePowers, changed}
+use Rattle.ledger.proofs.Moving.{part-changed}
 use Rattle.tables.specs.Tables.{Columns, keyIn}
 use Rattle.tables.specs.Passing.{isUnder, reached, Listed}
 use Rattle.tables.proofs.Listing.{listed-next, reached-more}
@@ -193,32 +194,12 @@ module _ (clock : Clock) (by : ℕ) (k : Key) (ps : List ℕ) (r : Rec) where
 
 -- ---- nothing else of a record is changed
 
-module _ {A : Type 0} (f : Rec → A) (same : (s u : ℕ) (r : Rec) → f (withStatus s u r) ≡ f r) where
-  if-keeps : (t : Bool) (s u : ℕ) (r : Rec) → f (cond t (withStatus s u r) r) ≡ f r
-  if-keeps true s u r = same s u r
-  if-keeps false s u r = refl
-
-  three-keeps : (clock : Clock) (k : Key) (r : Rec) → f (ruleThree clock k r) ≡ f r
-  three-keeps clock k r = go (replaces k r) (obsoletes clock k r)
-    where
-      go : (t o : Bool) → f (cond t (cond o (withStatus obsolete (r .until) r) (withStatus updated (firstCounted clock (k .day)) r)) r) ≡ f r
-      go true true = same obsolete (r .until) r
-      go true false = same updated (firstCounted clock (k .day)) r
-      go false o = refl
-
-  pub changed-keeps : (paired : Bool) (clock : Clock) (by : ℕ) (k : Key) (ps : List ℕ) (r : Rec) → f (changed paired clock by k ps r) ≡ f r
-  changed-keeps true clock by k ps r =
-      three-keeps clock k (ruleTwo by k ps (ruleOne by k r))
-      ∙ if-keeps (answers by k ps (ruleOne by k r)) answered (ruleOne by k r .until) (ruleOne by k r)
-      ∙ if-keeps (deletes by k r) deleted (r .until) r
-  changed-keeps false clock by k ps r = if-keeps (deletes by k r) deleted (r .until) r
-
 -- a record that was changed is what it was but for its status and its until-step
 pub changed-is : (paired : Bool) (clock : Clock) (by : ℕ) (k : Key) (ps : List ℕ) (r : Rec) →
     withStatus (changed paired clock by k ps r .status) (changed paired clock by k ps r .until) r ≡ changed paired clock by k ps r
 changed-is paired clock by k ps r =
     let x = changed paired clock by k ps r in
-    ap (withStatus (x .status) (x .until)) (sym (changed-keeps (withStatus 0 0) (λ s u r. refl) paired clock by k ps r))
+    ap (withStatus (x .status) (x .until)) (sym (part-changed (withStatus 0 0) (λ s u r. refl) paired clock by k ps r))
 
 -- ---- the records one by one
 
