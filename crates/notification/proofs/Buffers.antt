@@ -54,8 +54,8 @@ module _ (n : Notification) (name body : List ℕ) (w : Writes n name body) (a b
 
 -- ---- what an answer says
 
-by-lengths : (v : Verdict) (a b p q : ℕ) → decide v (Lengths a b) Refused ≡ Lengths p q → (v ≡ Pass) × ((p ≡ a) × (q ≡ b))
-by-lengths Pass a b p q e = (refl, (cc, cc))
+by-lengths : (v : Verdict) (a b p q : ℕ) → decide v (Lengths a b) Refused ≡ Lengths p q → (v ≡ Pass) × (p ≡ a) × (q ≡ b)
+by-lengths Pass a b p q e = (refl, (cc), (cc))
 by-lengths (No r) a b p q e = let z : _≡_ {A = ℕ} 0 1 = cc in absurd (omega arith)
 
 by-refusal : (v : Verdict) (a b : ℕ) (r : Refusal) → decide v (Lengths a b) Refused ≡ Refused r → v ≡ No r
@@ -81,10 +81,10 @@ module _ (n : Notification) (name body : ℕ) where
       record {
         a-pass = d .0;
         unrefused = all-pass (noteTests n) (all .0, (all .1 .0, (all .1 .1 .0, tt)));
-        of-name = d .1 .0;
-        of-body = d .1 .1;
-        name-room = omega (arith, d .1 .0, ltb-false name (length (nameOf (n .key))) (or-left _ _ short));
-        body-room = omega (arith, d .1 .1, ltb-false body (length (bodyOf n)) (or-right (ltb name (length (nameOf (n .key)))) _ short));
+        of-name = d .1;
+        of-body = d .2;
+        name-room = omega (arith, d .1, ltb-false name (length (nameOf (n .key))) (or-left _ _ short));
+        body-room = omega (arith, d .2, ltb-false body (length (bodyOf n)) (or-right (ltb name (length (nameOf (n .key)))) _ short));
       }
 
   -- a refusal leaves a buffer as it was
