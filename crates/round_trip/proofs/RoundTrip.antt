@@ -36,14 +36,14 @@ use Rattle.writer.proofs.writing.write_file.Reads as write-reads
 pub data Read : List ℕ → List ℕ → Reading → Type 1 where
   read : (κs : Lifetimes.Lfts 2) (x : World.ArgsD read-fn.signature κs) (y : Reading)
       (s : Clauses.AtExit (Kinds.endedOf 2 read-kinds.ps read-kinds.r) κs) →
-      (read-reads.Pre κs x → read-reads.Post κs x y s) → Read (now (x .0)) (now (x .1 .0)) y
+      (read-reads.Asked κs x → read-reads.Post κs x y s) → Read (now (x .0)) (now (x .1 .0)) y
 
 -- A NOTIFICATION, WRITTEN INTO TWO BUFFERS, THE ANSWER, AND THE BUFFERS AFTERWARDS: nothing is known but what `write_file`
 -- ensures where what it asks holds, and what the types of its arguments say, as that an array has so many places
 pub data Wrote : Notification → List ℕ → List ℕ → Written → List ℕ → List ℕ → Type 1 where
   wrote : (κs : Lifetimes.Lfts 2) (x : World.ArgsD write-fn.signature κs) (w : Written)
       (s : Clauses.AtExit (Kinds.endedOf 2 write-kinds.ps write-kinds.r) κs) → Kinds.GoodsP κs write-kinds.ps x →
-      (write-reads.Pre κs x → write-reads.Post κs x w s) →
+      (write-reads.Asked κs x → write-reads.Post κs x w s) →
       Wrote (x .0) (now (x .1 .0)) (now (x .1 .1 .0)) w (now (s .1 .0)) (now (s .1 .1 .0))
 
 -- a buffer whose first p bytes were written, and nothing else
