@@ -110,7 +110,7 @@ pub record Filings : Type 0 where
   pub both-outside : refusal (inDays short short 15) ≡ (29, 0)
   -- "31: the ceder has no load for the category and day": for another day it has one
   pub no-load : refusal (files (contracted whole whole 12) first first second 13 40) ≡ (31, 0)
-  -- "32, 33: ceder below 0; acquirer above its approved power": 60 of 60, and 50 of an approved 50
+  -- "32, 33: ceder below 0; acquirer above its approved power": the ceder has 60, the other acquirer an approved 50
   pub ceder-all : filesPowers (three 100) (replicate 48 60) ≡ Filed 1 created 0
   pub ceder-below : refusal (filesPowers (three 100) (replicate 48 61)) ≡ (32, 0)
   pub ceder-below-at-9 : refusal (filesPowers (three 100) (replicate 9 60 ++ replicate 39 61)) ≡ (32, 9)

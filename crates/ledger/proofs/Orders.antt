@@ -27,7 +27,7 @@ lowest l day fails = firstFrom fails (firstCounted (l .clock) day) (stepsOf day 
 
 module _ (l : Ledger) where
   -- "filing .. 20 to 36, ascending"
-  pub filing : (submitter : List ℕ) (n : Notification) → rows (filingTests l submitter n) ≡
+  pub filing-order : (submitter : List ℕ) (n : Notification) → rows (filingTests l submitter n) ≡
       unplaced (20 ∷ 21 ∷ 22 ∷ 23 ∷ 24 ∷ 25 ∷ 26 ∷ 27 ∷ 28 ∷ 29 ∷ 30 ∷ 31 ∷ [])
       ++ (32, lowest l (n .key .day) (cederBelow l (keyOf l n) (n .powers)))
       ∷ (33, lowest l (n .key .day) (acquirerAbove l (keyOf l n) (n .powers)))
@@ -35,7 +35,7 @@ module _ (l : Ledger) where
       ∷ (35, lowest l (n .key .day) (acquirerBelow l (keyOf l n) (n .powers)))
       ∷ unplaced (36 ∷ [])
   unfolding filingTests keyOf
-  filing submitter n = refl
+  filing-order submitter n = refl
 
   -- "filing 1 to 8, then 20 to 36": the file's tests and then the filing's are one list
   pub file-then-filing : (submitter name body : List ℕ) →
@@ -51,36 +51,36 @@ module _ (l : Ledger) where
       go (No r) e = sym (refuse-append r (fileTests name body) (filingTests l submitter (noteIn name body)) e)
 
   -- "Enrol 9, 10, 37, 36": an actor; a category has nothing that 10 could refuse
-  pub actor : (code : List ℕ) (first last : ℕ) → rows (actorTests l code first last) ≡ unplaced (9 ∷ 10 ∷ 37 ∷ 36 ∷ [])
+  pub actor-order : (code : List ℕ) (first last : ℕ) → rows (actorTests l code first last) ≡ unplaced (9 ∷ 10 ∷ 37 ∷ 36 ∷ [])
   unfolding actorTests
-  actor code first last = refl
+  actor-order code first last = refl
 
-  pub category : (text : List ℕ) → rows (categoryTests l text) ≡ unplaced (9 ∷ 37 ∷ 36 ∷ [])
+  pub category-order : (text : List ℕ) → rows (categoryTests l text) ≡ unplaced (9 ∷ 37 ∷ 36 ∷ [])
   unfolding categoryTests
-  category text = refl
+  category-order text = refl
 
   -- "Load 10, 22, 23, 39, 37, 36"
-  pub load : (code text : List ℕ) (day most : ℕ) (ps : List ℕ) →
+  pub load-order : (code text : List ℕ) (day most : ℕ) (ps : List ℕ) →
       rows (loadTests l code text day most ps) ≡ unplaced (10 ∷ 22 ∷ 23 ∷ 39 ∷ 37 ∷ 36 ∷ [])
   unfolding loadTests
-  load code text day most ps = refl
+  load-order code text day most ps = refl
 
   -- "Advance 10, 38"
-  pub advance : (to : Clock) → rows (advanceTests l to) ≡ unplaced (10 ∷ 38 ∷ [])
+  pub advance-order : (to : Clock) → rows (advanceTests l to) ≡ unplaced (10 ∷ 38 ∷ [])
   unfolding advanceTests
-  advance to = refl
+  advance-order to = refl
 
   -- "Engagement 22, 23, 10"
-  pub engagement : (code text : List ℕ) (day s : ℕ) → rows (engagementTests l code text day s) ≡ unplaced (22 ∷ 23 ∷ 10 ∷ [])
+  pub engagement-order : (code text : List ℕ) (day s : ℕ) → rows (engagementTests l code text day s) ≡ unplaced (22 ∷ 23 ∷ 10 ∷ [])
   unfolding engagementTests
-  engagement code text day s = refl
+  engagement-order code text day s = refl
 
   -- "Record 22, 40, 41"
-  pub record-of : (asker : List ℕ) (id : ℕ) → rows (recordTests l asker id) ≡ unplaced (22 ∷ 40 ∷ 41 ∷ [])
+  pub record-order : (asker : List ℕ) (id : ℕ) → rows (recordTests l asker id) ≡ unplaced (22 ∷ 40 ∷ 41 ∷ [])
   unfolding recordTests
-  record-of asker id = refl
+  record-order asker id = refl
 
   -- "History 22, 36"
-  pub history : (code : List ℕ) (room : ℕ) → rows (historyTests l code room) ≡ unplaced (22 ∷ 36 ∷ [])
+  pub history-order : (code : List ℕ) (room : ℕ) → rows (historyTests l code room) ≡ unplaced (22 ∷ 36 ∷ [])
   unfolding historyTests
-  history code room = refl
+  history-order code room = refl

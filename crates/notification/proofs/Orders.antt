@@ -17,9 +17,9 @@ use Rattle.notification.specs.Reading.{nameKey, stepLines, hasLabels, fi
 use Rattle.notification.specs.declared.Notification.{Notification}
 
 -- "6 and 7 are tried line by line, 6 first" (place: the line, the header being 1): at the line of step k
-pub line : (steps : ℕ) (ls : List (List ℕ)) (k : ℕ) →
+pub line-refused : (steps : ℕ) (ls : List (List ℕ)) (k : ℕ) →
     (numberOf (lineRefusal steps ls k) ≡ cond (hasLabels steps k (getD ls k [])) 7 6) × (placeOf (lineRefusal steps ls k) ≡ k + 2)
-line steps ls k = go (hasLabels steps k (getD ls k []))
+line-refused steps ls k = go (hasLabels steps k (getD ls k []))
   where
     go : (b : Bool) → (numberOf (cond (not b) (Input Labels (k + 2)) (Input Power (k + 2))) ≡ cond b 7 6)
         × (placeOf (cond (not b) (Input Labels (k + 2)) (Input Power (k + 2))) ≡ k + 2)
@@ -27,18 +27,18 @@ line steps ls k = go (hasLabels steps k (getD ls k []))
     go false = (refl, refl)
 
 -- "filing 1 to 8": 6 and 7 are one test, whose number and place are those of the first bad line
-pub file : (name body : List ℕ) →
+pub file-order : (name body : List ℕ) →
     let steps = stepsOf (nameKey name .day) in
     let bad = lineRefusal steps (stepLines body) (firstBad steps (stepLines body)) in
     rows (fileTests name body) ≡ (1, 0) ∷ (2, 0) ∷ (3, 1) ∷ (4, 1) ∷ (5, 0) ∷ (numberOf bad, placeOf bad) ∷ (8, 0) ∷ []
 unfolding fileTests
-file name body = refl
+file-order name body = refl
 
 -- the writer "refuses by 9, 10, 8, 36 in that order"
 abbrev pub writeTests : Notification → ℕ → ℕ → List Test
 writeTests n name body = noteTests n ++ (tooShort n name body, state Full) ∷ []
 
-pub writer : (n : Notification) (name body : ℕ) →
+pub writer-order : (n : Notification) (name body : ℕ) →
     (writeVerdict n name body ≡ firstMet (writeTests n name body)) × (rows (writeTests n name body) ≡ unplaced (9 ∷ 10 ∷ 8 ∷ 36 ∷ []))
 unfolding writeVerdict
-writer n name body = (refl, refl)
+writer-order n name body = (refl, refl)
