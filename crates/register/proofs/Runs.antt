@@ -9,7 +9,7 @@ use mathlib.Core.Path.{_≡_, refl, _∙_, ap, ap₂}
 use mathlib.Core.List.{List, [], _∷_}
 use Prim.Native.Nat.{ℕ}
 use lib.ListN.{length}
-use Rattle.ledger.specs.Ledger.{Ledger}
+use Rattle.ledger.specs.Ledger.{Ledger, fresh}
 use Rattle.ledger.specs.Call.{Call, enrolActor, enrolCategory, load, file, advance}
 use Rattle.ledger.specs.Calls.{step}
 use Rattle.ledger.specs.Asking.{askEngagement, askRecord, askHistory, historyIn}
@@ -19,8 +19,8 @@ use Rattle.ledger.specs.declared.Engaged.{Engaged}
 use Rattle.ledger.specs.declared.Shown.{Shown}
 use Rattle.ledger.specs.declared.Listed.{Listed}
 use Rattle.tables.specs.Tables.{Columns}
-use Rattle.register.specs.View.{Register, held}
-use Rattle.register.specs.Written.{Done, does, seen}
+use Rattle.register.specs.View.{Register, view, held}
+use Rattle.register.specs.Written.{freshHead, Done, does, seen}
 use Rattle.register.specs.declared.Head.{Head}
 use Rattle.register.specs.declared.Reply.{Reply}
 use Rattle.register.proofs.Head.fresh.Reads as fresh-reads
@@ -139,7 +139,7 @@ asks-nothing =
 
 -- ---- so what each ensures is known: the ledger's steps and answers
 
-pub begun-is : {head : Head} → Begun head → fresh-reads.Post tt tt head tt
+pub begun-is : {head : Head} → Begun head → (head ≡ freshHead) × ((cols : Columns) (ls : List (List ℕ)) → view head cols ls ≡ fresh)
 begun-is (begun head e) = e (asks-nothing .fresh)
 
 -- the register that a call leaves, byte by byte, the ledger that this holds, and the answer
