@@ -110,7 +110,7 @@ fn turn_in_span(
 
 // Turns a net by a record that gains it power, or gives its power away. A record in force at all counted steps has its whole
 // row gained or given; one that ends before them moves nothing there, and neither does one that both gains and gives.
-pub fn turn(
+pub(crate) fn turn(
     net: &mut [u32; 50],
     gains: bool,
     gives: bool,

@@ -3,8 +3,8 @@ use mathlib.Core.Path.{_≡_}
 use mathlib.Core.Bool.{Bool, false, cond, not, _&&_, _||_}
 use mathlib.Core.List.{List, [], _∷_, _++_}
 use Prim.Native.Nat.{ℕ, zero, suc, _/_, _%_, _<_}
-use lib.Dec.{eqb}
-use lib.ListN.{length, getD, set}
+use lib.Dec.{eqb, leb}
+use lib.ListN.{length, getD, set, drop}
 use Rattle.calendar.specs.declared.clock.Clock.{Clock}
 use Rattle.ledger.specs.Ledger.{Rec, movedBy}
 use Rattle.ledger.specs.Filing.{answers, changed}
@@ -71,3 +71,7 @@ partyIn key a = eqb (key / 8 % 8) a || eqb (key % 8) a
 unfoldable pub idsBelow : List ℕ → List ℕ → ℕ → ℕ → List ℕ
 idsBelow keys ids zero a = []
 idsBelow keys ids (suc n) a = idsBelow keys ids n a ++ cond (partyIn (getD keys n 0) a) (getD ids n 0 ∷ []) []
+
+-- ids put into a buffer that has room for them, the rest of it untouched; one that has none stays as it was
+abbrev pub putInto : List ℕ → List ℕ → List ℕ
+putInto ids out = cond (leb (length ids) (length out)) (ids ++ drop (length ids) out) out

@@ -9,7 +9,7 @@ use tables::records::CREATED;
 use tables::records::byte;
 
 // Whether two rows have the same power at every step. Each step is looked at, so that many are compared at once.
-pub fn same_powers(ps: [u16; 50], qs: [u16; 50]) -> bool
+pub(crate) fn same_powers(ps: [u16; 50], qs: [u16; 50]) -> bool
     ensures { λ r. ⌜ r ≡ samePowers ps qs ⌝ }
 {
     let mut good = true;
@@ -22,7 +22,7 @@ pub fn same_powers(ps: [u16; 50], qs: [u16; 50]) -> bool
 }
 
 // Whether a record is the other party's created one under the key with the same powers.
-pub fn is_answered(
+fn is_answered(
     status: u8,
     key: u32,
     mark: [u8; 4],

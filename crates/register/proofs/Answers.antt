@@ -7,7 +7,7 @@ use native.Mathlib.Omega.{arith}
 use lib.Dec.{ltb, eqb}
 use lib.ListN.{length, getD, drop, take, replicate, length-append}
 use lib.Seq.{take-all, take-suc, take-append-le, length-take-le, getD-take}
-use borrow.Author.Tests.{ltb-true, lt-ltb, le-ltb, not-false, eqb-true}
+use borrow.Author.Tests.{ltb-true, lt-ltb, le-ltb, lt-leb, le-leb, not-false, eqb-true}
 use Rattle.lists.specs.Sums.{sumTo}
 use Rattle.lists.proofs.Tests.{by-test}
 use Rattle.calendar.specs.Steps.{stepsOf}
@@ -30,7 +30,7 @@ use Rattle.tables.specs.declared.loads.Found.{Found}
 use Rattle.tables.specs.declared.loads.Found.the-variants.{At, Nothing}
 use Rattle.tables.proofs.Down.{down-length, last-below}
 use Rattle.tables.proofs.LoadTable.{loaded-row}
-use Rattle.recording.specs.Recording.{gainedAt, givenAt, idsBelow, partyIn}
+use Rattle.recording.specs.Recording.{gainedAt, givenAt, idsBelow, putInto, partyIn}
 use Rattle.recording.proofs.Views.{acquired-view, ceded-view, ids-view, found-view, missing-view}
 use Rattle.register.specs.declared.Head.{Head}
 use Rattle.register.specs.View.{view}
@@ -94,20 +94,22 @@ module _ (h : Head) (cols : Columns) (loads : List (List ℕ)) (actor buffer : L
 
   module _ (k count : ℕ) (t : not (ltb a n) ≡ false) (ek : k ≡ min (h .records .count) 256)
       (ec : count ≡ length (idsBelow (cols .keys) (h .records .ids) k a)) where
-    pub listed-full : length buffer < count →
-        (Ids.Refused (state Full) ≡ askHistory (view h cols loads) actor (length buffer)) × (buffer ≡ historyIn (view h cols loads) actor buffer)
+    pub listed-full : (after : List ℕ) → length buffer < count → after ≡ putInto (idsBelow (cols .keys) (h .records .ids) k a) buffer →
+        (Ids.Refused (state Full) ≡ askHistory (view h cols loads) actor (length buffer)) × (after ≡ historyIn (view h cols loads) actor buffer)
     unfolding askHistory historyIn historyTests view recordsIn
-    listed-full l =
+    listed-full after l e =
         let u = lt-ltb (length buffer) count l in
-        (rw (en, ← ea, t, ← ek, ids-view (h .records) cols k a, ← ec, u), rw (en, ← ea, t, ← ek, ids-view (h .records) cols k a, ← ec, u))
+        let kept : after ≡ buffer = e ∙ rw (lt-leb (length (idsBelow (cols .keys) (h .records .ids) k a)) (length buffer) (omega arith)) in
+        (rw (en, ← ea, t, ← ek, ids-view (h .records) cols k a, ← ec, u), kept ∙ rw (en, ← ea, t, ← ek, ids-view (h .records) cols k a, ← ec, u))
 
-    pub listed-all : (after : List ℕ) → count ≤ length buffer →
-        after ≡ idsBelow (cols .keys) (h .records .ids) k a ++ drop (length (idsBelow (cols .keys) (h .records .ids) k a)) buffer →
+    pub listed-all : (after : List ℕ) → count ≤ length buffer → after ≡ putInto (idsBelow (cols .keys) (h .records .ids) k a) buffer →
         (Ids.Count count ≡ askHistory (view h cols loads) actor (length buffer)) × (after ≡ historyIn (view h cols loads) actor buffer)
     unfolding askHistory historyIn historyTests view recordsIn
     listed-all after l e =
         let u = le-ltb (length buffer) count l in
-        (rw (en, ← ea, t, ← ek, ids-view (h .records) cols k a, ← ec, u), rw (en, ← ea, t, ← ek, ids-view (h .records) cols k a, ← ec, u) (e ∙ rw (← ec)))
+        let put : after ≡ idsBelow (cols .keys) (h .records .ids) k a ++ drop (length (idsBelow (cols .keys) (h .records .ids) k a)) buffer =
+        e ∙ rw (le-leb (length (idsBelow (cols .keys) (h .records .ids) k a)) (length buffer) (omega arith)) in
+        (rw (en, ← ea, t, ← ek, ids-view (h .records) cols k a, ← ec, u), rw (en, ← ea, t, ← ek, ids-view (h .records) cols k a, ← ec, u) (put ∙ rw (← ec)))
 
 -- ---- the codes and the category of a record
 

@@ -78,7 +78,7 @@ module _ (h : Head) (cols : Columns) (rows : List (List ℕ)) (k : Key) (number 
   load-passed i e ps = rw (load-test true (ap isAt e))
 
 -- the last load of a number among those that are there is the newest of it
-pub last-is : (x : Loads) (n number : ℕ) (f : Found) → n ≡ min (x .count) 64 → f ≡ lastBelow (λ i. eqb (getD (x .keys) i 0) number) n →
+pub last-is : (x : Loads) (number : ℕ) (f : Found) → f ≡ lastBelow (λ i. eqb (getD (x .keys) i 0) number) (min (x .count) 64) →
     f ≡ lastLoad x number
 unfolding lastLoad
-last-is x n number f e g = g ∙ ap (lastBelow (λ i. eqb (getD (x .keys) i 0) number)) e
+last-is x number f e = e

@@ -16,7 +16,6 @@ use ledger::Shown;
 use notification::Key;
 use notification::Notification;
 use recording::adding::totals_of;
-use recording::listing::count_of;
 use recording::listing::find_id;
 use recording::listing::is_party;
 use recording::listing::list_ids;
@@ -212,7 +211,7 @@ impl Head {
         }
         let records = self.records;
         let ids = records.ids;
-        let found = find_id(ids, least(records.count, RECORDS), id);
+        let found = find_id(ids, records.count, id);
         match found {
             Found::At(i) => {
                 if !is_party(keys[i as usize], a) {
@@ -235,12 +234,10 @@ impl Head {
         }
         let records = self.records;
         let own = records.ids;
-        let n = least(records.count, RECORDS);
-        let count = count_of(keys, own, n, a);
+        let count = list_ids(keys, own, records.count, a, &mut *ids);
         if ids.len() < count as usize {
             return no_list(StateRefusal::Full);
         }
-        list_ids(keys, own, n, a, ids);
         Listed::Count(count)
     }
 }

@@ -175,7 +175,7 @@ impl Head {
         ensures { λ r. ⌜ (r .verdict ≡ firstMet (loadTest (view self (record { keys = now (keys .entry); marks = now (marks .entry); rows = now (rows .entry) }) (now (loads .entry))) (keyAt at) ∷ stepTests (view self (record { keys = now (keys .entry); marks = now (marks .entry); rows = now (rows .entry) }) (now (loads .entry))) (keyAt at) ps)) × (r .verdict ≡ Verdict.Pass → UnderListed (self .records) at (now (keys .entry)) (r .count) (now (under .exit))) ⌝ }
     {
         let day = at.day;
-        let held = least(self.loads.count, LOADS);
+        let held = self.loads.count;
         let load_keys = self.loads.keys;
         let ceders = last_of(&load_keys, held, load_number(at.ceder, at.category, day));
         if let Found::Nothing = ceders {

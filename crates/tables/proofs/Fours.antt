@@ -2,7 +2,7 @@
 -- what is known of the next number that passes a test.
 use mathlib.Core.Path.{_≡_, refl, sym, ap, _∙_}
 use mathlib.Core.Bool.{Bool, true, false, cond, not, _||_, false≢true}
-use Prim.Native.Nat.{ℕ, zero, suc, _+_, _-_, _*_, _/_, _%_, _<_, _≤_}
+use Prim.Native.Nat.{ℕ, zero, suc, _+_, _-_, _*_, _/_, _%_, _<_, _≤_, min}
 use native.Mathlib.Omega.{arith}
 use native.Mathlib.Numerals.{add-one}
 use lib.Count.{trailingZeros}
@@ -24,6 +24,9 @@ half n = omega arith
 not-true : (b : Bool) → not b ≡ true → b ≡ false
 not-true true e = absurd (false≢true e)
 not-true false e = refl
+
+few : (n : ℕ) → n ≤ 256 → min n 256 ≡ n
+few n m = omega arith
 
 module _ (p : ℕ → Bool) where
   pub four-bits : (i : ℕ) →
@@ -106,8 +109,9 @@ module _ (p : ℕ → Bool) where
     pub before : (j : ℕ) → i ≤ j → j < k → p j ≡ false
     pub passes : k < n → p k ≡ true
 
-  pub next-is : (i n k : ℕ) → i ≤ n → k ≡ firstFrom p i (n - i) → Next i n k
-  next-is i n k h e =
+  pub next-is : (i n k : ℕ) → i ≤ n → n ≤ 256 → k ≡ firstFrom p i (min n 256 - i) → Next i n k
+  next-is i n k h m f =
+      let e : k ≡ firstFrom p i (n - i) = rw (few n m) at f in
       record {
         from = omega (arith, first-from p i (n - i));
         until = omega (arith, first-until p i (n - i));

@@ -27,7 +27,7 @@ pub fn least(a: u32, b: u32) -> u32
 }
 
 // Whether a code is this text. Each byte is looked at, so that many are compared at once.
-pub fn is_text(code: [u8; 16], s: &[u8]) -> bool
+fn is_text(code: [u8; 16], s: &[u8]) -> bool
     ensures { λ r. ⌜ r ≡ same code (now (s .entry)) ⌝ }
 {
     if s.len() != 16 {

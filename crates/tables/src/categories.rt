@@ -28,7 +28,7 @@ pub struct Categories {
 }
 
 // Whether six bytes stand for this text.
-pub fn stands_for(c: [u8; 6], s: &[u8]) -> bool
+fn stands_for(c: [u8; 6], s: &[u8]) -> bool
     ensures { λ r. ⌜ r ≡ same (categoryText c) (now (s .entry)) ⌝ }
 {
     let five = c[5] == 0;

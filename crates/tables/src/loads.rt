@@ -2,7 +2,7 @@
 ghost use mathlib.Core.Path.{_≡_};
 ghost use mathlib.Core.Bool.{true};
 ghost use mathlib.Core.List.{List, _∷_};
-ghost use Prim.Native.Nat.{ℕ, _<_, _≤_, _+_, _-_, _*_, _%_, _/_};
+ghost use Prim.Native.Nat.{ℕ, _<_, _≤_, _+_, _-_, _*_, _%_, _/_, min};
 ghost use lib.Dec.{eqb, leb};
 ghost use lib.ListN.{length, getD, set};
 ghost use Rattle.lists.specs.Searches.{every};
@@ -58,12 +58,11 @@ fn passes_four(keys: &[u32; 64], i: u32, number: u32) -> bool
     none_of_four(keys, i - 4, number)
 }
 
-// The last place below n with this number.
+// The last of the first n places with this number.
 pub fn last_of(keys: &[u32; 64], n: u32, number: u32) -> Found
-    requires { ⌜ n ≤ 64 ⌝ }
-    ensures { λ r. ⌜ r ≡ lastBelow (λ i. eqb (getD (now (keys .entry)) i 0) number) n ⌝ }
+    ensures { λ r. ⌜ r ≡ lastBelow (λ i. eqb (getD (now (keys .entry)) i 0) number) (min n 64) ⌝ }
 {
-    let mut i = n;
+    let mut i = least(n, LOADS);
     while passes_four(keys, i, number) {
         i -= 4;
     }
@@ -81,8 +80,7 @@ impl Loads {
     pub fn find(self, number: u32) -> Found
         ensures { λ r. ⌜ r ≡ lastLoad self number ⌝ }
     {
-        let n = least(self.count, LOADS);
-        last_of(&self.keys, n, number)
+        last_of(&self.keys, self.count, number)
     }
 
     // One load more, where there is a place.

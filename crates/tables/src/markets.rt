@@ -1,10 +1,11 @@
 // The records of one category and day among all: where the next of them stands.
 ghost use mathlib.Core.Path.{_≡_};
 ghost use mathlib.Core.Bool.{cond};
-ghost use Prim.Native.Nat.{ℕ, _≤_, _+_, _-_, _*_};
+ghost use Prim.Native.Nat.{ℕ, _≤_, _+_, _-_, _*_, min};
 ghost use Rattle.lists.specs.Searches.{firstFrom};
 ghost use Rattle.tables.specs.Passing.{bitsFrom, inMarket};
 use crate::actors::least;
+use crate::records::RECORDS;
 
 // A bit of a weight, set where a test passes.
 fn bit(passes: bool, weight: u32) -> u32
@@ -25,20 +26,20 @@ fn bits_of_four(keys: &[u32; 256], i: u32, market: u32) -> u32
         + bit(keys[at + 3] / 64 == market, 8)
 }
 
-// The place of the next of the first n records, from i on, that is of a category and day; n where there is none. Both parties
-// often file in turn, so record i is looked at first.
+// The place of the next of the first n records, from i on, that is of a category and day; n where there is none, or i where that is
+// above n. Both parties often file in turn, so record i is looked at first.
 pub fn next_of(keys: &[u32; 256], i: u32, n: u32, market: u32) -> u32
-    requires { ⌜ (i ≤ n) × (n ≤ 256) ⌝ }
-    ensures { λ r. ⌜ r ≡ firstFrom (inMarket (now (keys .entry)) market) i (n - i) ⌝ }
+    ensures { λ r. ⌜ r ≡ firstFrom (inMarket (now (keys .entry)) market) i (min n 256 - i) ⌝ }
 {
-    if n <= i {
-        return n;
+    let last = least(n, RECORDS);
+    if last <= i {
+        return i;
     }
     if keys[i as usize] / 64 == market {
         return i;
     }
     let mut k = i + 1;
-    let end = n - least(n, 3);
+    let end = last - least(last, 3);
     while k < end {
         let four = bits_of_four(keys, k, market);
         if four != 0 {
@@ -46,11 +47,11 @@ pub fn next_of(keys: &[u32; 256], i: u32, n: u32, market: u32) -> u32
         }
         k += 4;
     }
-    while k < n {
+    while k < last {
         if keys[k as usize] / 64 == market {
             return k;
         }
         k += 1;
     }
-    n
+    last
 }

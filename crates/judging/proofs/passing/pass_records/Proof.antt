@@ -9,6 +9,7 @@ use Rattle.tables.proofs.Fours.{next-is}
 use Rattle.tables.proofs.Listing.{listed-none}
 use Rattle.judging.specs.Nets.{Netting}
 use Rattle.judging.proofs.Netting.{netting-none, netting-between, netting-through, listed-through}
+use borrow.Author.Needs.{needs}
 use Rattle.judging.proofs.passing.pass_records.Statement.{statement}
 use Rattle.judging.proofs.passing.pass_records.Tie as tie
 
@@ -29,7 +30,7 @@ loop-holds c =
     (omega arith, netting-none _ _ _ _ _ _ _ (p .2), netting-none _ _ _ _ _ _ _ (p .3), listed-none _ _, p .4)
 
 next-of-requires : tie.Need-next-of-requires Inv-loop μ-loop
-next-of-requires c κs = (c .loop .inv .0, c .before .pre .0)
+next-of-requires c κs = search needs
 
 pass-record-requires : tie.Need-pass-record-requires Inv-loop μ-loop
 pass-record-requires c κs =
@@ -37,7 +38,7 @@ pass-record-requires c κs =
     let a = c .before .before .before .before .before .before .args in
     let cols : Columns = record { keys = a .keys .now; marks = a .marks .now; rows = a .rows .now } in
     let k = c .before .before .before .before .next-of .result in
-    let next = next-is (inMarket (a .keys .now) (a .own / 64)) (b .i) (a .n) k (b .inv .0) (c .before .before .before .before .next-of .ensures) in
+    let next = next-is (inMarket (a .keys .now) (a .own / 64)) (b .i) (a .n) k (b .inv .0) (c .before .before .before .before .before .before .pre .0) (c .before .before .before .before .next-of .ensures) in
     let ceders = netting-through cols (a .statuses .now) (a .own) (a .own / 8 % 8) (a .ceder .now) (a .first) (a .until) (b .i) k (b .ceder) (next .from) (next .before) (b .inv .1) in
     let acquirers = netting-through cols (a .statuses .now) (a .own) (a .own % 8) (a .acquirer .now) (a .first) (a .until) (b .i) k (b .acquirer) (next .from) (next .before) (b .inv .2) in
     let list = listed-through (a .keys .now) (a .own) (b .i) k (b .count) (b .places) (next .from) (next .before) (b .inv .3) in
@@ -57,7 +58,7 @@ loop-less : tie.Need-loop-less Inv-loop μ-loop
 loop-less c =
     let b = c .before .before .before .before .before .before .loop in
     let a = c .before .before .before .before .before .before .before .args in
-    omega (arith, next-is (inMarket (a .keys .now) (a .own / 64)) (b .i) (a .n) (c .before .before .before .before .before .next-of .result) (b .inv .0) (c .before .before .before .before .before .next-of .ensures) .from)
+    omega (arith, next-is (inMarket (a .keys .now) (a .own / 64)) (b .i) (a .n) (c .before .before .before .before .before .next-of .result) (b .inv .0) (c .before .before .before .before .before .before .before .pre .0) (c .before .before .before .before .before .next-of .ensures) .from)
 
 loop-again : tie.Need-loop-again Inv-loop μ-loop
 loop-again c =
@@ -65,7 +66,7 @@ loop-again c =
     let a = c .before .before .before .before .before .before .before .args in
     let cols : Columns = record { keys = a .keys .now; marks = a .marks .now; rows = a .rows .now } in
     let k = c .before .before .before .before .before .next-of .result in
-    let next = next-is (inMarket (a .keys .now) (a .own / 64)) (b .i) (a .n) k (b .inv .0) (c .before .before .before .before .before .next-of .ensures) in
+    let next = next-is (inMarket (a .keys .now) (a .own / 64)) (b .i) (a .n) k (b .inv .0) (c .before .before .before .before .before .before .before .pre .0) (c .before .before .before .before .before .next-of .ensures) in
     let ceders = netting-through cols (a .statuses .now) (a .own) (a .own / 8 % 8) (a .ceder .now) (a .first) (a .until) (b .i) k (b .ceder) (next .from) (next .before) (b .inv .1) in
     let acquirers = netting-through cols (a .statuses .now) (a .own) (a .own % 8) (a .acquirer .now) (a .first) (a .until) (b .i) k (b .acquirer) (next .from) (next .before) (b .inv .2) in
     let list = listed-through (a .keys .now) (a .own) (b .i) k (b .count) (b .places) (next .from) (next .before) (b .inv .3) in
@@ -78,7 +79,7 @@ returns c =
     let a = c .before .before .before .args in
     let cols : Columns = record { keys = a .keys .now; marks = a .marks .now; rows = a .rows .now } in
     let k = c .before .next-of .result in
-    let next = next-is (inMarket (a .keys .now) (a .own / 64)) (b .i) (a .n) k (b .inv .0) (c .before .next-of .ensures) in
+    let next = next-is (inMarket (a .keys .now) (a .own / 64)) (b .i) (a .n) k (b .inv .0) (c .before .before .before .pre .0) (c .before .next-of .ensures) in
     let ceders = netting-through cols (a .statuses .now) (a .own) (a .own / 8 % 8) (a .ceder .now) (a .first) (a .until) (b .i) k (b .ceder) (next .from) (next .before) (b .inv .1) in
     let acquirers = netting-through cols (a .statuses .now) (a .own) (a .own % 8) (a .acquirer .now) (a .first) (a .until) (b .i) k (b .acquirer) (next .from) (next .before) (b .inv .2) in
     let list = listed-through (a .keys .now) (a .own) (b .i) k (b .count) (b .places) (next .from) (next .before) (b .inv .3) in

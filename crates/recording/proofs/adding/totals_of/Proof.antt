@@ -55,7 +55,7 @@ loop-less : tie.Need-loop-less Inv-loop μ-loop
 loop-less c =
     let q = c .before .before .before .before .before .loop in
     let p = c .before .before .before .before .before .before .args in
-    omega (arith, next-is (inMarket (p .keys .now) (p .market)) (q .i) (p .n) (c .before .before .before .before .next-of .result) (q .inv .0) (c .before .before .before .before .next-of .ensures) .from)
+    omega (arith, next-is (inMarket (p .keys .now) (p .market)) (q .i) (p .n) (c .before .before .before .before .next-of .result) (q .inv .0) (c .before .before .before .before .before .before .pre .0) (c .before .before .before .before .next-of .ensures) .from)
 
 loop-again : tie.Need-loop-again Inv-loop μ-loop
 loop-again c =
@@ -63,7 +63,7 @@ loop-again c =
     let p = c .before .before .before .before .before .before .args in
     let cols : Columns = record { keys = p .keys .now; marks = p .marks .now; rows = p .rows .now } in
     let k = c .before .before .before .before .next-of .result in
-    let next = next-is (inMarket (p .keys .now) (p .market)) (q .i) (p .n) k (q .inv .0) (c .before .before .before .before .next-of .ensures) in
+    let next = next-is (inMarket (p .keys .now) (p .market)) (q .i) (p .n) k (q .inv .0) (c .before .before .before .before .before .before .pre .0) (c .before .before .before .before .next-of .ensures) in
     let gained = gained-through cols (p .statuses .now) (p .market) (p .actor) (p .s) (q .i) k (q .gained) (next .from) (next .before) (q .inv .3) in
     let given = given-through cols (p .statuses .now) (p .market) (p .actor) (p .s) (q .i) k (q .given) (next .from) (next .before) (q .inv .4) in
     let here = next .passes (omega arith) in
@@ -81,7 +81,7 @@ returns c =
     let p = c .before .before .before .args in
     let cols : Columns = record { keys = p .keys .now; marks = p .marks .now; rows = p .rows .now } in
     let k = c .before .next-of .result in
-    let next = next-is (inMarket (p .keys .now) (p .market)) (q .i) (p .n) k (q .inv .0) (c .before .next-of .ensures) in
+    let next = next-is (inMarket (p .keys .now) (p .market)) (q .i) (p .n) k (q .inv .0) (c .before .before .before .pre .0) (c .before .next-of .ensures) in
     let gained = gained-through cols (p .statuses .now) (p .market) (p .actor) (p .s) (q .i) k (q .gained) (next .from) (next .before) (q .inv .3) in
     let given = given-through cols (p .statuses .now) (p .market) (p .actor) (p .s) (q .i) k (q .given) (next .from) (next .before) (q .inv .4) in
     let e : k ≡ p .n = omega (arith, next .until) in

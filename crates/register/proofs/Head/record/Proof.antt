@@ -1,5 +1,5 @@
 -- `Head::record` meets its contract: who asks, the record of the id, and whether the asker is a party to it.
-use mathlib.Core.Path.{sym, _∙_}
+use mathlib.Core.Path.{refl, sym, _∙_}
 use borrow.Author.Tests.{not-true, not-false}
 use Rattle.register.proofs.Parties.{head-actors}
 use Rattle.register.proofs.Answers.{found-below, shown-nobody, shown-none, shown-other, shown-own}
@@ -22,9 +22,6 @@ returns c loads =
     let hn = head-actors (a .args .self) _ (a .good .0) in
     c .not-shown .ensures ∙ shown-nobody (a .args .self) (record { keys = a .args .keys .now; marks = a .args .marks .now; rows = a .args .rows .now }) loads (a .args .asker .now) (a .args .id) _ _ (hn ∙ sym (c .before .before .least .ensures)) (c .before .before .before .place .ensures) (c .before .if1 .taken)
 
-least-requires-2 : tie.Need-least-requires-2
-least-requires-2 c κs = search needs
-
 find-id-requires : tie.Need-find-id-requires
 find-id-requires c κs = search needs
 
@@ -39,8 +36,8 @@ mul-is-party c = search needs
 
 element-copy-out-is-party : tie.Need-element-copy-out-is-party
 element-copy-out-is-party c =
-    let a = c .before .before .before .before .before .before .before .before .before .before .before .before in
-    found-below (a .args .self .records .ids) (a .args .id) _ _ _ _ (c .before .before .before .before .least2 .ensures) (c .before .before .before .find-id .ensures) (c .before .found .given .1)
+    let a = c .before .before .before .before .before .before .before .before .before .before .before in
+    found-below (a .args .self .records .ids) (a .args .id) _ _ _ _ refl (c .before .before .before .find-id .ensures) (c .before .found .given .1)
 
 is-party-requires : tie.Need-is-party-requires
 is-party-requires c κs = search needs
@@ -50,14 +47,14 @@ not-shown-requires-2 c κs = search needs
 
 returns-2 : tie.Need-returns-2
 returns-2 c loads =
-    let a = c .before .before .before .before .before .before .before .before .before .before .before .before .before .before .before .before in
+    let a = c .before .before .before .before .before .before .before .before .before .before .before .before .before .before .before in
     let hn = head-actors (a .args .self) _ (a .good .0) in
-    c .not-shown2 .ensures ∙ shown-other (a .args .self) (record { keys = a .args .keys .now; marks = a .args .marks .now; rows = a .args .rows .now }) loads (a .args .asker .now) (a .args .id) _ _ (hn ∙ sym (c .before .before .before .before .before .before .before .before .before .before .before .before .least .ensures)) (c .before .before .before .before .before .before .before .before .before .before .before .before .before .place .ensures) _ _ (c .before .before .before .before .before .before .before .before .before .before .before .if1 .left) (c .before .before .before .before .before .before .before .before .least2 .ensures) (c .before .before .before .before .before .before .before .find-id .ensures) _ (c .before .before .before .before .before .found .given .1) (sym (c .before .before .is-party .ensures) ∙ not-true _ (c .before .if2 .taken))
+    c .not-shown2 .ensures ∙ shown-other (a .args .self) (record { keys = a .args .keys .now; marks = a .args .marks .now; rows = a .args .rows .now }) loads (a .args .asker .now) (a .args .id) _ _ (hn ∙ sym (c .before .before .before .before .before .before .before .before .before .before .before .least .ensures)) (c .before .before .before .before .before .before .before .before .before .before .before .before .place .ensures) _ _ (c .before .before .before .before .before .before .before .before .before .before .if1 .left) refl (c .before .before .before .before .before .before .before .find-id .ensures) _ (c .before .before .before .before .before .found .given .1) (sym (c .before .before .is-party .ensures) ∙ not-true _ (c .before .if2 .taken))
 
 shown-at-requires : tie.Need-shown-at-requires
 shown-at-requires c κs =
-    let a = c .before .before .before .before .before .before .before .before .before .before .before .before .before .before .before in
-    found-below (a .args .self .records .ids) (a .args .id) _ _ _ _ (c .before .before .before .before .before .before .before .least2 .ensures) (c .before .before .before .before .before .before .find-id .ensures) (c .before .before .before .before .found .given .1)
+    let a = c .before .before .before .before .before .before .before .before .before .before .before .before .before .before in
+    found-below (a .args .self .records .ids) (a .args .id) _ _ _ _ refl (c .before .before .before .before .before .before .find-id .ensures) (c .before .before .before .before .found .given .1)
 
 enum-told : tie.Need-enum-told
 enum-told c = search needs
@@ -67,15 +64,15 @@ not-shown-requires-3 c κs = search needs
 
 returns-3 : tie.Need-returns-3
 returns-3 c loads =
-    let a = c .before .before .before .before .before .before .before .before .before .before .before .before .before .before .before .before in
+    let a = c .before .before .before .before .before .before .before .before .before .before .before .before .before .before .before in
     let hn = head-actors (a .args .self) _ (a .good .0) in
-    shown-own (a .args .self) (record { keys = a .args .keys .now; marks = a .args .marks .now; rows = a .args .rows .now }) loads (a .args .asker .now) (a .args .id) _ _ (hn ∙ sym (c .before .before .before .before .before .before .before .before .before .before .before .before .least .ensures)) (c .before .before .before .before .before .before .before .before .before .before .before .before .before .place .ensures) _ _ (c .before .before .before .before .before .before .before .before .before .before .before .if1 .left) (c .before .before .before .before .before .before .before .before .least2 .ensures) (c .before .before .before .before .before .before .before .find-id .ensures) _ (c .before .before .before .before .before .found .given .1) _ (sym (c .before .before .is-party .ensures) ∙ not-false _ (c .before .if2 .left)) (c .shown-at .ensures loads)
+    shown-own (a .args .self) (record { keys = a .args .keys .now; marks = a .args .marks .now; rows = a .args .rows .now }) loads (a .args .asker .now) (a .args .id) _ _ (hn ∙ sym (c .before .before .before .before .before .before .before .before .before .before .before .least .ensures)) (c .before .before .before .before .before .before .before .before .before .before .before .before .place .ensures) _ _ (c .before .before .before .before .before .before .before .before .before .before .if1 .left) refl (c .before .before .before .before .before .before .before .find-id .ensures) _ (c .before .before .before .before .before .found .given .1) _ (sym (c .before .before .is-party .ensures) ∙ not-false _ (c .before .if2 .left)) (c .shown-at .ensures loads)
 
 returns-4 : tie.Need-returns-4
 returns-4 c loads =
-    let a = c .before .before .before .before .before .before .before .before .before .before .before .before in
+    let a = c .before .before .before .before .before .before .before .before .before .before .before in
     let hn = head-actors (a .args .self) _ (a .good .0) in
-    c .not-shown3 .ensures ∙ shown-none (a .args .self) (record { keys = a .args .keys .now; marks = a .args .marks .now; rows = a .args .rows .now }) loads (a .args .asker .now) (a .args .id) _ _ (hn ∙ sym (c .before .before .before .before .before .before .before .before .least .ensures)) (c .before .before .before .before .before .before .before .before .before .place .ensures) _ _ (c .before .before .before .before .before .before .before .if1 .left) (c .before .before .before .before .least2 .ensures) (c .before .before .before .find-id .ensures) (c .before .enum-told .given .1)
+    c .not-shown3 .ensures ∙ shown-none (a .args .self) (record { keys = a .args .keys .now; marks = a .args .marks .now; rows = a .args .rows .now }) loads (a .args .asker .now) (a .args .id) _ _ (hn ∙ sym (c .before .before .before .before .before .before .before .least .ensures)) (c .before .before .before .before .before .before .before .before .place .ensures) _ _ (c .before .before .before .before .before .before .if1 .left) refl (c .before .before .before .find-id .ensures) (c .before .enum-told .given .1)
 
 pub record-spec : {M : Type 1} → statement M
 record-spec =
@@ -85,7 +82,6 @@ record-spec =
     least-requires
     not-shown-requires
     returns
-    least-requires-2
     find-id-requires
     enum-known-found
     cast-is-party
