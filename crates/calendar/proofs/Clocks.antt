@@ -8,8 +8,13 @@ use lib.Dec.{leb, ltb, eqb}
 use borrow.Author.Tests.{ltb-true, ltb-false, leb-true, lt-ltb, le-ltb, le-leb, lt-leb, eq-eqb}
 use Rattle.calendar.specs.Dates.{date}
 use Rattle.calendar.specs.Steps.{stepMinutes, lastSunday, stepsOf}
-use Rattle.calendar.specs.Clocks.{freshClock, firstCounted, counts, isMoment, isBefore}
+use Rattle.calendar.specs.Clocks.{freshClock, firstCounted, counts, isMoment, isBefore, advanceTests, advanced}
+use Rattle.refusals.specs.Tests.{firstMet, decide}
+use Rattle.refusals.specs.declared.Refusal.{Refusal}
+use Rattle.refusals.specs.declared.Verdict.{Verdict}
+use Rattle.refusals.specs.declared.Verdict.the-variants.{Pass, No}
 use Rattle.calendar.specs.declared.clock.Clock.{Clock}
+use Rattle.calendar.specs.declared.clock.Advance.the-variants.{Moved, Refused}
 use Rattle.lists.proofs.Tests.{both-true, both-false, right-false}
 
 -- ---- firstCounted
@@ -74,6 +79,31 @@ counts-earlier a b day step e k = go (ltb (a .day) day) refl
         let fa : firstCounted a day ≡ a .minute / stepMinutes + 2 = rw ed (first-today a) in
         let fb : firstCounted b day ≡ b .minute / stepMinutes + 2 = rw eb (first-today b) in
         counts-from a day step (omega arith) (omega arith)
+
+-- ---- advanced
+
+-- what the clock answers tells what its tests come to
+module _ (c to : Clock) where
+  by-verdict : (v : Verdict) (x : Clock) → Moved x ≡ decide v (Moved to) Refused → (x ≡ to) × (v ≡ Pass)
+  by-verdict Pass x e = (cc, refl)
+  by-verdict (No r) x e = let z : _≡_ {A = ℕ} 0 1 = cc in absurd (omega arith)
+
+  pub advanced-moved : (x : Clock) → Moved x ≡ advanced c to → (x ≡ to) × (firstMet (advanceTests c to) ≡ Pass)
+  unfolding advanced
+  advanced-moved x e = by-verdict (firstMet (advanceTests c to)) x e
+
+  by-refusal : (v : Verdict) (r : Refusal) → Refused r ≡ decide v (Moved to) Refused → v ≡ No r
+  by-refusal Pass r e = let z : _≡_ {A = ℕ} 0 1 = cc in absurd (omega arith)
+  by-refusal (No q) r e = cc
+
+  pub advanced-refused : (r : Refusal) → Refused r ≡ advanced c to → firstMet (advanceTests c to) ≡ No r
+  unfolding advanced
+  advanced-refused r e = by-refusal (firstMet (advanceTests c to)) r e
+
+-- the same moment is accepted
+pub advanced-same : (c : Clock) → isMoment c ≡ true → advanced c c ≡ Moved c
+unfolding advanced
+advanced-same c e = rw (e, isBefore-same c)
 
 -- ---- isMoment
 

@@ -1,11 +1,17 @@
 -- The clock and the first counted step. Document 01, "Days and steps": "The clock is a day and an elapsed minute below 30
 -- times the day's steps." "First counted step at clock minute m: 0 for a day after the clock's day; floor(m/30)+2 for the
 -- clock's day."
-use mathlib.Core.Bool.{Bool, cond, _&&_, _||_}
+use mathlib.Core.Bool.{Bool, not, cond, _&&_, _||_}
+use mathlib.Core.List.{List, [], _∷_}
 use Prim.Native.Nat.{ℕ, _+_, _*_, _/_}
 use lib.Dec.{leb, ltb, eqb}
 use Rattle.calendar.specs.Steps.{stepMinutes, stepsOf}
+use Rattle.refusals.specs.Tests.{Test, input, state, firstMet, decide}
+use Rattle.refusals.specs.declared.InputRefusal.the-variants.{Range}
+use Rattle.refusals.specs.declared.StateRefusal.the-variants.{Back}
 use Rattle.calendar.specs.declared.clock.Clock.{Clock}
+use Rattle.calendar.specs.declared.clock.Advance.{Advance}
+use Rattle.calendar.specs.declared.clock.Advance.the-variants.{Moved, Refused}
 
 -- "The ledger": "A fresh register .. with its clock at day 0, minute 0"
 abbrev pub freshClock : Clock
@@ -27,3 +33,11 @@ isMoment clock = ltb (clock .minute) (stepMinutes * stepsOf (clock .day))
 -- refusal 38, "the clock would go back": one moment is before another
 abbrev pub isBefore : Clock → Clock → Bool
 isBefore a b = ltb (a .day) (b .day) || (eqb (a .day) (b .day) && ltb (a .minute) (b .minute))
+
+-- ADVANCE: 10, 38
+abbrev pub advanceTests : Clock → Clock → List Test
+advanceTests clock to = (not (isMoment to), input Range) ∷ (isBefore to clock, state Back) ∷ []
+
+-- "The ledger": "advance the clock (the same moment is accepted)": the clock at the new moment, or what refuses it
+unfoldable pub advanced : Clock → Clock → Advance
+advanced clock to = decide (firstMet (advanceTests clock to)) (Moved to) Refused

@@ -1,9 +1,11 @@
-// The clock: "a day and an elapsed minute below 30 times the day's steps", a value. The next one is what the
-// register's advance leaves in its head.
+// The clock: "a day and an elapsed minute below 30 times the day's steps", a value whose methods take it and answer the next one.
 ghost use mathlib.Core.Path.{_≡_};
-ghost use Rattle.calendar.specs.Clocks.{freshClock, firstCounted, counts, isMoment, isBefore};
+ghost use Rattle.calendar.specs.Clocks.{freshClock, firstCounted, counts, isMoment, isBefore, advanced};
 use crate::steps::STEP_MINUTES;
 use crate::steps::steps_of;
+use refusals::InputRefusal;
+use refusals::Refusal;
+use refusals::StateRefusal;
 
 // The steps that the neutral hour takes from the clock's own on: the one that runs, and the next.
 const NEUTRAL_STEPS: u32 = 2;
@@ -13,6 +15,12 @@ const NEUTRAL_STEPS: u32 = 2;
 pub struct Clock {
     pub day: u32,
     pub minute: u32,
+}
+
+// What comes of moving the clock: the clock at the new moment, or a refusal.
+pub enum Advance {
+    Moved(Clock),
+    Refused(Refusal),
 }
 
 impl Clock {
@@ -55,5 +63,18 @@ impl Clock {
         ensures { λ r. ⌜ r ≡ isBefore self other ⌝ }
     {
         (self.day < other.day) | ((self.day == other.day) & (self.minute < other.minute))
+    }
+
+    // The clock at a later moment, or at the same one: 10, 38.
+    pub fn advanced(self, to: Clock) -> Advance
+        ensures { λ r. ⌜ r ≡ advanced self to ⌝ }
+    {
+        if !to.is_moment() {
+            return Advance::Refused(Refusal::Input(InputRefusal::Range, 0));
+        }
+        if to.is_before(self) {
+            return Advance::Refused(Refusal::State(StateRefusal::Back, 0));
+        }
+        Advance::Moved(to)
     }
 }

@@ -6,6 +6,7 @@ pub mod labels;
 pub mod steps;
 pub mod texts;
 
+pub use crate::clock::Advance;
 pub use crate::clock::Clock;
 pub use crate::dates::DAYS;
 pub use crate::labels::Label;

@@ -5,8 +5,10 @@ use crate::printing::put;
 use crate::printing::put_day;
 use crate::printing::put_label;
 use crate::printing::put_with;
+use calendar::Advance;
 use calendar::Clock;
 use calendar::DAYS;
+use refusals::number_of;
 
 fn yes_or_no(answer: bool) {
     if answer {
@@ -89,12 +91,15 @@ fn advance_line(from: Clock, to: Clock) {
     put_with(b" minute ", from.minute);
     put_with(b" to day ", to.day);
     put_with(b" minute ", to.minute);
-    if !to.is_moment() {
-        put(b" is no moment\n");
-    } else if to.is_before(from) {
-        put(b" would go back\n");
-    } else {
-        put(b" moves\n");
+    match from.advanced(to) {
+        Advance::Moved(_) => put(b" moves\n"),
+        Advance::Refused(r) => {
+            if number_of(r) == 10 {
+                put(b" is no moment\n");
+            } else {
+                put(b" would go back\n");
+            }
+        }
     }
 }
 

@@ -11,7 +11,7 @@ use Rattle.notification.specs.Forms.{isCode, isCategory, inPlaces}
 use Rattle.ledger.specs.Call.{Call, enrolActor, enrolCategory, load, advance}
 use Rattle.ledger.specs.Ledger.{Ledger, actorAt, categoryAt, hasLoad}
 use Rattle.ledger.specs.Filing.{nobody}
-use Rattle.ledger.specs.Calls.{moment, actorTests, categoryTests, loadRanged, loadable, loadTests, advanceTests, verdictOf, effect, step}
+use Rattle.ledger.specs.Calls.{moment, actorTests, categoryTests, loadRanged, loadable, loadTests, verdictOf, effect, step}
 use Rattle.ledger.specs.declared.Answer.{Answer}
 use Rattle.ledger.specs.declared.Answer.the-variants.{Moved, Held}
 use Rattle.ledger.proofs.Examples.{eic, first, second, category, plainDay, shortDay, longDay}
@@ -97,7 +97,7 @@ pub record Bounds : Type 0 where
   pub no-day : refused one (advance 36525 0) ≡ (10, 0)
 
 pub bounds : Bounds
-unfolding eic other withC holding one answer loads same placeOf date tomorrow number valid monthLength leapDays beforeYear beforeMonth stepsOf lastSunday isCode isCategory inPlaces actorAt categoryAt hasLoad actorTests categoryTests loadRanged loadable loadTests advanceTests verdictOf effect step
+unfolding eic other withC holding one answer loads same placeOf date tomorrow number valid monthLength leapDays beforeYear beforeMonth stepsOf lastSunday isCode isCategory inPlaces actorAt categoryAt hasLoad actorTests categoryTests loadRanged loadable loadTests verdictOf effect step
 bounds =
     record {
       actor-8 = refl;

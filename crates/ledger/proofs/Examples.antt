@@ -17,7 +17,7 @@ use Rattle.ledger.specs.Statuses.{created}
 use Rattle.ledger.specs.Call.{Call, enrolActor, enrolCategory, load, advance}
 use Rattle.ledger.specs.Ledger.{Ledger, fresh, actorAt, categoryAt, hasLoad, loaded, approved, moved, power, acquired, ceded, gained, engagement}
 use Rattle.ledger.specs.Filing.{keyOf, cederBelow, acquirerAbove, cederAbove, acquirerBelow, filingTests, samePowers, pairs, obsoletes, nextId, filed}
-use Rattle.ledger.specs.Calls.{actorTests, categoryTests, loadRanged, loadable, loadTests, advanceTests, verdictOf, fileNote, effect, stepNote, step}
+use Rattle.ledger.specs.Calls.{actorTests, categoryTests, loadRanged, loadable, loadTests, verdictOf, fileNote, effect, stepNote, step}
 use Rattle.ledger.specs.Asking.{engagedAt}
 use Rattle.ledger.specs.Whole.{after}
 use Rattle.ledger.specs.declared.Answer.{Answer}
@@ -130,7 +130,7 @@ pub record Edge : Type 0 where
   pub uncounted-differs : butAtZero 942 ≡ Filed 2 created 33
 
 pub edge : Edge
-unfolding eic enters noteWith note exchange two answerAt butAtZero noStep three cededOn acquiredFrom replacing each same placeOf firstFrom date tomorrow number valid monthLength leapDays beforeYear beforeMonth stepsOf lastSunday firstCounted isCode isCategory categoryText inPlaces actorAt categoryAt hasLoad loaded approved moved power acquired ceded gained engagement keyOf cederBelow acquirerAbove cederAbove acquirerBelow filingTests samePowers pairs obsoletes nextId filed actorTests categoryTests loadRanged loadable loadTests advanceTests verdictOf fileNote effect stepNote step engagedAt
+unfolding eic enters noteWith note exchange two answerAt butAtZero noStep three cededOn acquiredFrom replacing each same placeOf firstFrom date tomorrow number valid monthLength leapDays beforeYear beforeMonth stepsOf lastSunday firstCounted isCode isCategory categoryText inPlaces actorAt categoryAt hasLoad loaded approved moved power acquired ceded gained engagement keyOf cederBelow acquirerAbove cederAbove acquirerBelow filingTests samePowers pairs obsoletes nextId filed actorTests categoryTests loadRanged loadable loadTests verdictOf fileNote effect stepNote step engagedAt
 edge =
     record {
       days = days;

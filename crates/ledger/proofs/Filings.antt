@@ -15,7 +15,7 @@ use Rattle.ledger.specs.Statuses.{created}
 use Rattle.ledger.specs.Call.{enrolActor, enrolCategory, load, advance}
 use Rattle.ledger.specs.Ledger.{Ledger, fresh, actorAt, categoryAt, hasLoad, loaded, approved, moved, power, acquired, ceded, gained, engagement}
 use Rattle.ledger.specs.Filing.{keyOf, cederBelow, acquirerAbove, cederAbove, acquirerBelow, filingTests, samePowers, pairs, obsoletes, nextId, filed}
-use Rattle.ledger.specs.Calls.{withRecords, actorTests, categoryTests, loadRanged, loadable, loadTests, advanceTests, verdictOf, fileNote, effect, stepNote, step}
+use Rattle.ledger.specs.Calls.{withRecords, actorTests, categoryTests, loadRanged, loadable, loadTests, verdictOf, fileNote, effect, stepNote, step}
 use Rattle.ledger.specs.Asking.{noRecord}
 use Rattle.ledger.specs.Whole.{after}
 use Rattle.ledger.specs.declared.Answer.{Answer}
@@ -126,7 +126,7 @@ pub record Filings : Type 0 where
   pub record-257 : refusal (files (holding 256) first first second plainDay 40) ≡ (36, 0)
 
 pub filings : Filings
-unfolding eic enters noteWith note two three files filesPowers contracted inDays falling holding otherCategory same placeOf firstFrom date tomorrow number valid monthLength leapDays beforeYear beforeMonth stepsOf lastSunday firstCounted isCode isCategory categoryText inPlaces actorAt categoryAt hasLoad loaded approved moved power acquired ceded gained engagement keyOf cederBelow acquirerAbove cederAbove acquirerBelow filingTests samePowers pairs obsoletes nextId filed actorTests categoryTests loadRanged loadable loadTests advanceTests verdictOf fileNote effect stepNote step
+unfolding eic enters noteWith note two three files filesPowers contracted inDays falling holding otherCategory same placeOf firstFrom date tomorrow number valid monthLength leapDays beforeYear beforeMonth stepsOf lastSunday firstCounted isCode isCategory categoryText inPlaces actorAt categoryAt hasLoad loaded approved moved power acquired ceded gained engagement keyOf cederBelow acquirerAbove cederAbove acquirerBelow filingTests samePowers pairs obsoletes nextId filed actorTests categoryTests loadRanged loadable loadTests verdictOf fileNote effect stepNote step
 filings =
     record {
       ceder-unknown = refl;

@@ -6,7 +6,7 @@ use mathlib.Core.List.{List, [], _∷_, _++_}
 use Prim.Native.Nat.{ℕ, _-_}
 use Rattle.lists.specs.Searches.{firstFrom}
 use Rattle.calendar.specs.Steps.{stepsOf}
-use Rattle.calendar.specs.Clocks.{firstCounted}
+use Rattle.calendar.specs.Clocks.{firstCounted, advanceTests}
 use Rattle.calendar.specs.declared.clock.Clock.{Clock}
 use Rattle.refusals.specs.Tests.{firstMet, decide}
 use Rattle.refusals.specs.declared.Verdict.{Verdict}
@@ -18,7 +18,7 @@ use Rattle.notification.specs.declared.Notification.{Notification}
 use Rattle.ledger.specs.Ledger.{Ledger}
 use Rattle.ledger.specs.Call.{file}
 use Rattle.ledger.specs.Filing.{keyOf, cederBelow, acquirerAbove, cederAbove, acquirerBelow, filingTests}
-use Rattle.ledger.specs.Calls.{actorTests, categoryTests, loadTests, advanceTests, verdictOf}
+use Rattle.ledger.specs.Calls.{actorTests, categoryTests, loadTests, verdictOf}
 use Rattle.ledger.specs.Asking.{engagementTests, recordTests, historyTests}
 
 -- "They carry the lowest counted step that fails as their place": of the steps of the filing's day
@@ -66,8 +66,7 @@ module _ (l : Ledger) where
   load-order code text day most ps = refl
 
   -- "Advance 10, 38"
-  pub advance-order : (to : Clock) → rows (advanceTests l to) ≡ unplaced (10 ∷ 38 ∷ [])
-  unfolding advanceTests
+  pub advance-order : (to : Clock) → rows (advanceTests (l .clock) to) ≡ unplaced (10 ∷ 38 ∷ [])
   advance-order to = refl
 
   -- "Engagement 22, 23, 10"

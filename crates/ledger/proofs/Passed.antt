@@ -12,7 +12,7 @@ use Rattle.lists.proofs.Tests.{both-true}
 use Rattle.lists.proofs.Searches.{first-before}
 use Rattle.calendar.specs.Dates.{dayCount}
 use Rattle.calendar.specs.Steps.{stepsOf}
-use Rattle.calendar.specs.Clocks.{firstCounted, isMoment, isBefore}
+use Rattle.calendar.specs.Clocks.{firstCounted, isMoment, isBefore, advanceTests}
 use Rattle.calendar.specs.declared.clock.Clock.{Clock}
 use Rattle.refusals.specs.Tests.{Test, state, firstMet}
 use Rattle.refusals.specs.declared.Verdict.the-variants.{Pass}
@@ -22,7 +22,7 @@ use Rattle.notification.specs.Forms.{isCode, isCategory, powerEnd}
 use Rattle.notification.specs.declared.Notification.{Notification}
 use Rattle.ledger.specs.Ledger.{Key, Ledger, actorPlaces, categoryPlaces, loadPlaces, recordPlaces, actorAt, categoryAt, hasLoad, approved, power, gained, ceded}
 use Rattle.ledger.specs.Filing.{keyOf, inContract, reach, cederBelow, acquirerAbove, cederAbove, acquirerBelow, filingTests}
-use Rattle.ledger.specs.Calls.{actorTests, categoryTests, loadRanged, loadable, loadTests, advanceTests}
+use Rattle.ledger.specs.Calls.{actorTests, categoryTests, loadRanged, loadable, loadTests}
 
 -- the test at a place of an accepted call is not met
 unmet : (ts : List Test) → firstMet ts ≡ Pass → (i : ℕ) → i < length ts → getD ts i (true, state ActorUnknown) .0 ≡ false
@@ -185,8 +185,7 @@ pub record AdvanceOk (l : Ledger) (to : Clock) : Type 0 where
   pub moment : isMoment to ≡ true
   pub forward : isBefore to (l .clock) ≡ false
 
-pub advance-ok : (l : Ledger) (to : Clock) → firstMet (advanceTests l to) ≡ Pass → AdvanceOk l to
-unfolding advanceTests
+pub advance-ok : (l : Ledger) (to : Clock) → firstMet (advanceTests (l .clock) to) ≡ Pass → AdvanceOk l to
 advance-ok l to e =
-    let t = unmet (advanceTests l to) e in
+    let t = unmet (advanceTests (l .clock) to) e in
     record { moment = not-false _ (t 0 (omega arith)); forward = t 1 (omega arith) }

@@ -3,6 +3,7 @@
 use mathlib.Core.Path.{_≡_, refl}
 use mathlib.Core.List.{List}
 use Prim.Native.Nat.{ℕ}
+use Rattle.calendar.specs.Clocks.{advanceTests}
 use Rattle.refusals.specs.Tests.{firstMet, decide}
 use Rattle.refusals.specs.declared.Refusal.{Refusal}
 use Rattle.refusals.specs.declared.Verdict.{Verdict}
@@ -15,7 +16,7 @@ use Rattle.ledger.specs.Call.{Call, enrolActor, enrolCategory, load, fil
 use Rattle.ledger.specs.declared.Actor.{Actor}
 use Rattle.ledger.specs.Ledger.{Load, Ledger, actorAt, categoryAt}
 use Rattle.ledger.specs.Filing.{filingTests}
-use Rattle.ledger.specs.Calls.{Outcome, actorTests, categoryTests, loadTests, advanceTests, moment, verdictOf, withActor, withCategory, withLoad, withClock, fileNote, effect, refusedBy, stepNote, step}
+use Rattle.ledger.specs.Calls.{Outcome, actorTests, categoryTests, loadTests, moment, verdictOf, withActor, withCategory, withLoad, withClock, fileNote, effect, refusedBy, stepNote, step}
 use Rattle.ledger.proofs.Passed.{FilingOk, filing-ok, ActorOk, actor-ok, CategoryOk, category-ok, LoadOk, load-ok, AdvanceOk, advance-ok}
 
 -- two verdicts in turn
@@ -69,5 +70,5 @@ module _ (l : Ledger) (P : Ledger → Type 0) (kept : Kept l P) where
       (decided (λ o. P (o .ledger)) (readFile name body .verdict) (stepNote l u (readFile name body .notification)) (refusedBy l)
       (λ e. note-kept u (readFile name body .notification)) (λ r e. kept .refused))
   step-kept (advance day minute) =
-      decided (λ o. P (o .ledger)) (firstMet (advanceTests l (moment day minute))) (effect l (advance day minute)) (refusedBy l)
+      decided (λ o. P (o .ledger)) (firstMet (advanceTests (l .clock) (moment day minute))) (effect l (advance day minute)) (refusedBy l)
       (λ e. kept .clock day minute (advance-ok l (moment day minute) e)) (λ r e. kept .refused)

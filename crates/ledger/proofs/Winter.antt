@@ -13,7 +13,7 @@ use Rattle.ledger.specs.Statuses.{created, answered, deleted, validated,
 use Rattle.ledger.specs.Call.{advance}
 use Rattle.ledger.specs.Ledger.{Ledger, actorAt, categoryAt, hasLoad, loaded, approved, moved, power, acquired, ceded, gained, engagement}
 use Rattle.ledger.specs.Filing.{keyOf, cederBelow, acquirerAbove, cederAbove, acquirerBelow, filingTests, samePowers, pairs, obsoletes, nextId, filed}
-use Rattle.ledger.specs.Calls.{Outcome, actorTests, categoryTests, loadRanged, loadable, loadTests, advanceTests, verdictOf, fileNote, effect, stepNote, step}
+use Rattle.ledger.specs.Calls.{Outcome, actorTests, categoryTests, loadRanged, loadable, loadTests, verdictOf, fileNote, effect, stepNote, step}
 use Rattle.ledger.specs.Asking.{engagedAt}
 use Rattle.ledger.specs.declared.Answer.the-variants.{Filed}
 use Rattle.ledger.proofs.Examples as Edge
@@ -81,7 +81,7 @@ pub record Winter : Type 0 where
   pub lower-by-9 : pair (six .ledger) 37 ≡ (20 + 9, 40 - 9)
 
 pub winter : Winter
-unfolding eic enters noteWith note Edge.two by-first by-second dawn one two three four five six spans pair same placeOf firstFrom date tomorrow number valid monthLength leapDays beforeYear beforeMonth stepsOf lastSunday firstCounted isCode isCategory categoryText inPlaces actorAt categoryAt hasLoad loaded approved moved power acquired ceded gained engagement keyOf cederBelow acquirerAbove cederAbove acquirerBelow filingTests samePowers pairs obsoletes nextId filed actorTests categoryTests loadRanged loadable loadTests advanceTests verdictOf fileNote effect stepNote step engagedAt
+unfolding eic enters noteWith note Edge.two by-first by-second dawn one two three four five six spans pair same placeOf firstFrom date tomorrow number valid monthLength leapDays beforeYear beforeMonth stepsOf lastSunday firstCounted isCode isCategory categoryText inPlaces actorAt categoryAt hasLoad loaded approved moved power acquired ceded gained engagement keyOf cederBelow acquirerAbove cederAbove acquirerBelow filingTests samePowers pairs obsoletes nextId filed actorTests categoryTests loadRanged loadable loadTests verdictOf fileNote effect stepNote step engagedAt
 winter =
     record {
       filed-40 = refl;

@@ -21,7 +21,7 @@ use Rattle.ledger.specs.Statuses.{created, validated}
 use Rattle.ledger.specs.Call.{Call, enrolActor, enrolCategory, load, file, advance}
 use Rattle.ledger.specs.Ledger.{Ledger, fresh, actorAt, categoryAt, hasLoad, loaded, approved, moved, power, acquired, ceded, gained, engagement}
 use Rattle.ledger.specs.Filing.{keyOf, cederBelow, acquirerAbove, cederAbove, acquirerBelow, filingTests, samePowers, pairs, obsoletes, nextId, filed}
-use Rattle.ledger.specs.Calls.{actorTests, categoryTests, loadRanged, loadable, loadTests, advanceTests, verdictOf, fileNote, effect, stepNote, step}
+use Rattle.ledger.specs.Calls.{actorTests, categoryTests, loadRanged, loadable, loadTests, verdictOf, fileNote, effect, stepNote, step}
 use Rattle.ledger.specs.Asking.{engagedAt}
 use Rattle.ledger.specs.Reading.{Event, events, actorsOf, categoriesOf, clockOf, loadedOf, approvedOf, powerOf, acquiredOf, cededOf}
 use Rattle.ledger.specs.Whole.{Asked, after, answersTo}
@@ -76,7 +76,7 @@ pub record Met : Type 0 where
   pub stopped : counts (clockOf (record { call = advance plainDay 1068; answer = step reached (advance plainDay 1068) .answer } ∷ told)) plainDay 36 ≡ false
 
 pub met : Met
-unfolding filing calls next told reached pair eic enters noteWith note same placeOf firstFrom date tomorrow number valid monthLength leapDays beforeYear beforeMonth stepsOf lastSunday firstCounted isCode isCategory categoryText inPlaces actorAt categoryAt hasLoad loaded approved moved power acquired ceded gained engagement keyOf cederBelow acquirerAbove cederAbove acquirerBelow filingTests samePowers pairs obsoletes nextId filed actorTests categoryTests loadRanged loadable loadTests advanceTests verdictOf fileNote effect stepNote step engagedAt counts pairOf textOf dayOf labelOf nameOf headerOf labelsText linesOf bodyOf formed digits allZero keyIn nameKey headerKey isName isHeader linesIn isBody headLine stepLines hasLabels restOf valueFrom isPower firstBad powersIn fileTests noteIn readFile actorsOf categoriesOf clockOf loadedOf approvedOf powerOf acquiredOf cededOf
+unfolding filing calls next told reached pair eic enters noteWith note same placeOf firstFrom date tomorrow number valid monthLength leapDays beforeYear beforeMonth stepsOf lastSunday firstCounted isCode isCategory categoryText inPlaces actorAt categoryAt hasLoad loaded approved moved power acquired ceded gained engagement keyOf cederBelow acquirerAbove cederAbove acquirerBelow filingTests samePowers pairs obsoletes nextId filed actorTests categoryTests loadRanged loadable loadTests verdictOf fileNote effect stepNote step engagedAt counts pairOf textOf dayOf labelOf nameOf headerOf labelsText linesOf bodyOf formed digits allZero keyIn nameKey headerKey isName isHeader linesIn isBody headLine stepLines hasLabels restOf valueFrom isPower firstBad powersIn fileTests noteIn readFile actorsOf categoriesOf clockOf loadedOf approvedOf powerOf acquiredOf cededOf
 met =
     record {
       accepted = refl;

@@ -1,26 +1,26 @@
 -- The calls of demand 3's list (document 01, "The ledger", "Calls" and "Order"): each is its tests in their order, then its effect.
-use mathlib.Core.Bool.{Bool, true, false, cond, not, _&&_, _||_}
+use mathlib.Core.Bool.{Bool, not, _&&_}
 use mathlib.Core.List.{List, [], _∷_, _++_}
-use Prim.Native.Nat.{ℕ, zero, suc, _+_, _-_}
+use Prim.Native.Nat.{ℕ, suc, _+_}
 use lib.Dec.{leb, ltb, eqb}
-use lib.ListN.{length, getD}
+use lib.ListN.{length}
 use Rattle.lists.specs.Searches.{every}
 use Rattle.calendar.specs.Dates.{dayCount}
 use Rattle.calendar.specs.Steps.{stepsOf}
-use Rattle.calendar.specs.Clocks.{firstCounted, isMoment, isBefore}
+use Rattle.calendar.specs.Clocks.{firstCounted, advanceTests}
 use Rattle.calendar.specs.declared.clock.Clock.{Clock}
 use Rattle.refusals.specs.Tests.{Test, input, state, firstMet, decide}
 use Rattle.refusals.specs.declared.Refusal.{Refusal}
 use Rattle.refusals.specs.declared.Verdict.{Verdict}
-use Rattle.refusals.specs.declared.Verdict.the-variants.{Pass, No}
+use Rattle.refusals.specs.declared.Verdict.the-variants.{No}
 use Rattle.refusals.specs.declared.InputRefusal.the-variants.{Form, Range}
-use Rattle.refusals.specs.declared.StateRefusal.the-variants.{ActorUnknown, CategoryUnknown, Full, There, Back, LoadDay}
+use Rattle.refusals.specs.declared.StateRefusal.the-variants.{ActorUnknown, CategoryUnknown, Full, There, LoadDay}
 use Rattle.notification.specs.Forms.{isCode, isCategory, powerEnd, inPlaces}
 use Rattle.notification.specs.Reading.{readFile}
 use Rattle.notification.specs.declared.Notification.{Notification}
 use Rattle.ledger.specs.Call.{Call, enrolActor, enrolCategory, load, file, advance}
 use Rattle.ledger.specs.declared.Actor.{Actor}
-use Rattle.ledger.specs.Ledger.{Load, Key, Rec, Ledger, actorPlaces, categoryPlaces, loadPlaces, actorAt, categoryAt, hasLoad}
+use Rattle.ledger.specs.Ledger.{Load, Rec, Ledger, actorPlaces, categoryPlaces, loadPlaces, actorAt, categoryAt, hasLoad}
 use Rattle.ledger.specs.Filing.{keyOf, noActor, noCategory, filingTests, pairs, statusBy, nextId, filed}
 use Rattle.ledger.specs.declared.Answer.{Answer}
 use Rattle.ledger.specs.declared.Answer.the-variants.{Moved, Held, Filed, Refused}
@@ -75,10 +75,6 @@ loadTests l actor category day most ps =
     ∷ (not (ltb (length (l .loads)) loadPlaces), state Full)
     ∷ []
 
--- ADVANCE: 10, 38
-unfoldable pub advanceTests : Ledger → Clock → List Test
-advanceTests l to = (not (isMoment to), input Range) ∷ (isBefore to (l .clock), state Back) ∷ []
-
 abbrev pub moment : ℕ → ℕ → Clock
 moment day minute = record { day = day; minute = minute }
 
@@ -89,7 +85,7 @@ verdictOf l (enrolCategory text) = firstMet (categoryTests l text)
 verdictOf l (load actor category day most ps) = firstMet (loadTests l actor category day most ps)
 verdictOf l (file submitter name body) =
     decide (readFile name body .verdict) (firstMet (filingTests l submitter (readFile name body .notification))) No
-verdictOf l (advance day minute) = firstMet (advanceTests l (moment day minute))
+verdictOf l (advance day minute) = firstMet (advanceTests (l .clock) (moment day minute))
 
 -- THE EFFECT OF AN ACCEPTED CALL
 

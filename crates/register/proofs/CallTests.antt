@@ -11,16 +11,14 @@ use borrow.Author.Tests.{eq-eqb, ne-eqb, ltb-true, not-false}
 use Rattle.lists.specs.Searches.{every}
 use Rattle.calendar.specs.Dates.{dayCount}
 use Rattle.calendar.specs.Steps.{stepsOf}
-use Rattle.calendar.specs.Clocks.{isMoment, isBefore}
-use Rattle.calendar.specs.declared.clock.Clock.{Clock}
 use Rattle.refusals.specs.Tests.{input, state, firstMet}
 use Rattle.refusals.specs.declared.InputRefusal.the-variants.{Form, Range}
-use Rattle.refusals.specs.declared.StateRefusal.the-variants.{ActorUnknown, CategoryUnknown, Full, There, Back, LoadDay}
+use Rattle.refusals.specs.declared.StateRefusal.the-variants.{ActorUnknown, CategoryUnknown, Full, There, LoadDay}
 use Rattle.notification.specs.Forms.{isCode, isCategory, powerEnd}
 use Rattle.lists.proofs.Tests.{and-left}
 use Rattle.notification.proofs.Tested.{every-more}
 use Rattle.ledger.specs.Ledger.{actorAt, categoryAt, hasLoad}
-use Rattle.ledger.specs.Calls.{actorTests, categoryTests, advanceTests, loadRanged, loadable, loadTests}
+use Rattle.ledger.specs.Calls.{actorTests, categoryTests, loadRanged, loadable, loadTests}
 use Rattle.tables.specs.Tables.{Columns, actorsIn, categoriesIn, loadsIn, loadNumber}
 use Rattle.tables.specs.Passing.{lastLoad}
 use Rattle.tables.specs.declared.actors.Actors.{Actors}
@@ -68,11 +66,6 @@ module _ (h : Head) (cols : Columns) (loads : List (List ℕ)) where
   category-is text n at l en ea t1 t2 t3 e1 e2 e3 =
       let k : length (categoriesIn (h .categories)) ≡ n = categories-many (h .categories) l ∙ sym en in
       rw (k, ← ea, e1, e2, e3)
-
-  pub advance-is : (to : Clock) (t1 t2 : Bool) → isMoment to ≡ t1 → isBefore to (h .clock) ≡ t2 →
-      firstMet ((not t1, input Range) ∷ (t2, state Back) ∷ []) ≡ firstMet (advanceTests (view h cols loads) to)
-  unfolding view advanceTests
-  advance-is to t1 t2 e1 e2 = rw (e1, e2)
 
   pub load-is : (actor category : List ℕ) (day most : ℕ) (ps : List ℕ) (n m k a z : ℕ) → length (h .actors .entries) ≡ 8 →
       length (h .categories .entries) ≡ 4 → n ≡ min (h .actors .count) 8 → m ≡ min (h .categories .count) 4 →

@@ -21,7 +21,7 @@ use Rattle.notification.specs.Reading.{readFile}
 use Rattle.notification.specs.declared.Reading.{Reading}
 use Rattle.ledger.specs.Ledger.{Ledger, actorAt, categoryAt}
 use Rattle.ledger.specs.Call.{Call, enrolActor, enrolCategory, load, file, advance}
-use Rattle.ledger.specs.Calls.{verdictOf, effect, actorTests, categoryTests, loadTests, advanceTests, moment}
+use Rattle.ledger.specs.Calls.{verdictOf, effect, actorTests, categoryTests, loadTests, moment}
 use Rattle.ledger.specs.Asking.{askEngagement, recordTests, askRecord, historyOf, historyTests, askHistory, historyIn}
 use Rattle.ledger.specs.Filing.{keyOf, statusBy}
 use Rattle.ledger.specs.declared.Answer.{Answer}
@@ -94,7 +94,7 @@ module _ (r : Register) (c : Call) (f : Refusal) where
 
 advance-any : (r : Register) (day minute : ℕ) (v : Verdict) → v ≡ verdictOf (held r) (advance day minute) →
     (cols : Columns) (ls : List (List ℕ)) → v ≡ verdictOf (view (r .head) cols ls) (advance day minute)
-unfolding verdictOf view advanceTests
+unfolding verdictOf view
 advance-any r day minute v e cols ls = e
 
 next-advance : (r : Register) (day minute : ℕ) → Sized r → (v : Verdict) → v ≡ verdictOf (held r) (advance day minute) → Next r (advance day minute)

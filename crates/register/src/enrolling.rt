@@ -5,12 +5,13 @@ ghost use Prim.Native.Nat.{ℕ};
 ghost use Rattle.refusals.specs.Tests.{firstMet};
 ghost use Rattle.ledger.specs.Call.{enrolActor, enrolCategory, advance};
 ghost use Rattle.ledger.specs.Ledger.{fresh};
-ghost use Rattle.ledger.specs.Calls.{actorTests, categoryTests, advanceTests};
+ghost use Rattle.ledger.specs.Calls.{actorTests, categoryTests};
 ghost use Rattle.tables.specs.Tables.{Columns};
 ghost use Rattle.register.specs.View.{view};
 ghost use Rattle.register.specs.Written.{freshHead, seen, does};
 use crate::Head;
 use crate::Reply;
+use calendar::Advance;
 use calendar::Clock;
 use calendar::DAYS;
 use judging::steps::no;
@@ -169,20 +170,6 @@ impl Head {
         }
     }
 
-    // What advancing the clock comes to: 10, 38.
-    fn advance_verdict(self, to: Clock) -> Verdict
-        ensures { λ r. ⌜ ((cols : Columns) (loads : List (List ℕ)) → r ≡ firstMet (advanceTests (view self cols loads) to)) ⌝ }
-    {
-        if !to.is_moment() {
-            return no_input(InputRefusal::Range);
-        }
-        let clock = self.clock;
-        if to.is_before(clock) {
-            return no(StateRefusal::Back, 0);
-        }
-        Verdict::Pass
-    }
-
     // Advances the clock to a later moment, or to the same one.
     pub fn advance(self, day: u32, minute: u32) -> Reply
         ensures { λ r. ⌜ ((cols : Columns) (loads : List (List ℕ)) → seen (record { head = r .head; columns = cols; loads = loads }) (r .answer) ≡ does (record { head = self; columns = cols; loads = loads }) (advance day minute)) ⌝ }
@@ -191,15 +178,18 @@ impl Head {
             day: day,
             minute: minute,
         };
-        let verdict = self.advance_verdict(to);
-        if let Verdict::No(r) = verdict {
-            return self.refused(r);
-        }
-        let mut head = self;
-        head.clock = to;
-        Reply {
-            head: head,
-            answer: Answer::Moved,
+        let clock = self.clock;
+        let moved = clock.advanced(to);
+        match moved {
+            Advance::Refused(r) => self.refused(r),
+            Advance::Moved(next) => {
+                let mut head = self;
+                head.clock = next;
+                Reply {
+                    head: head,
+                    answer: Answer::Moved,
+                }
+            }
         }
     }
 }
