@@ -13,4 +13,9 @@ pub mod Demand2
 pub mod Demand3
 pub mod Once
 pub mod Kept
+pub mod Sized
+pub mod CallsExist
+pub mod FilingsExist
+pub mod AsksExist
 pub mod RunsExist
+pub mod Witness
