@@ -1,0 +1,226 @@
+-- A walk over lines goes on from each line that is answered, and stops where a file, more input or more room is wanted.
+use mathlib.Core.Path.{_≡_, refl, sym, ap, _∙_, subst}
+use mathlib.Core.Bool.{Bool, true, false, cond}
+use mathlib.Core.List.{List, [], _∷_}
+use Prim.Native.Nat.{ℕ, suc, _+_, _-_, _<_, _≤_}
+use native.Mathlib.Omega.{arith}
+use lib.Dec.{eqb}
+use lib.ListN.{length, getD, take, drop, length-drop, drop-of-length-le}
+use lib.Seq.{length-take-le, drop-drop}
+use borrow.Author.Tests.{ne-eqb, leb-true}
+use Rattle.lists.proofs.Tests.{by-test, true-false}
+use Rattle.notification.specs.Reading.{linesIn}
+use Rattle.reader.specs.Walking.{LineEnd}
+use Rattle.reader.proofs.Ends.{lines-here, lines-over}
+use Rattle.answers.specs.declared.Said.{Said}
+use Rattle.register.specs.View.{Register, held}
+use Rattle.turns.specs.Told.{Told, tells}
+use Rattle.script.specs.Lines.{Asked, advance, enrolActor, enrolCategory, load, file, engagement, recordOf, unknown, lineOf, engagementOf}
+use Rattle.script.specs.Spans.{cut, asked, Read}
+use Rattle.script.specs.Answers.{answerPut, answerEnd}
+use Rattle.script.specs.declared.reading.Line.{Line}
+use Rattle.script.specs.declared.reading.Line.the-variants.{Engagement}
+use Rattle.session.specs.declared.asking.Asking.{Asking}
+use Rattle.session.specs.Lines.{onlyAsks, askStep, engagedBy, lineStep}
+use Rattle.session.proofs.Spans.{asks-only, asks-engagement, engaged-within, within-form}
+use Rattle.lines.proofs.Fronts.{drop-take}
+use Rattle.lines.specs.Walking.{Walked, hasRoom, next, nameFrom, nameAt, wanted, stops, tellsOn, answered, walk, NamedIn, Named, NamedIf, Progressed}
+use Rattle.lines.specs.declared.answering.Progress.{Progress}
+use Rattle.lines.specs.declared.answering.Wants.{Wants}
+use Rattle.lines.specs.declared.answering.Wants.the-variants.{Input, File, Room}
+
+-- ---- lines that only ask
+
+-- such a line names no file
+asks-none : (n : ℕ) (a : Asked) → onlyAsks a ≡ true → nameFrom n a ≡ 0
+unfolding onlyAsks
+asks-none n (advance day minute) e = refl
+asks-none n (enrolActor code first last) e = refl
+asks-none n (enrolCategory text) e = refl
+asks-none n (load actor category day approved powers) e = refl
+asks-none n (file submitter name) e = true-false true refl (sym e)
+asks-none n (engagement actor category day s) e = refl
+asks-none n (recordOf asker id) e = refl
+asks-none n unknown e = refl
+
+none-wanted : (given : Bool) (line : List ℕ) → nameAt line ≡ 0 → wanted given line ≡ 0
+none-wanted true line e = refl
+none-wanted false line e = e
+
+-- a line that begins with E is read by itself
+by-letter : (t : Bool) (a b : List ℕ) (d s : ℕ) (x : Asked) → engagement a b d s ≡ cond t x unknown → engagement a b d s ≡ x
+by-letter true a b d s x e = e
+by-letter false a b d s x e = let z : _≡_ {A = ℕ} 0 1 = cc in absurd (omega arith)
+
+by-itself : (line : List ℕ) {a b : List ℕ} {d s : ℕ} → engagement a b d s ≡ engagementOf line → engagement a b d s ≡ lineOf line
+unfolding engagementOf
+by-itself line {a} {b} {d} {s} e = by-letter (eqb (getD line 0 0) 69) a b d s (lineOf line) e
+
+-- what a line that only asks tells, and that it names no file
+pub record Answers (r : Register) (readable : Bool) (body line : List ℕ) (given : Bool) (said : Said) : Type 0 where
+  pub told : tells r said ≡ lineStep r readable body (lineOf line)
+  pub unnamed : wanted given line ≡ 0
+
+module _ (r : Register) (readable : Bool) (body line : List ℕ) (given : Bool) (said : Said) where
+  only-asks : onlyAsks (lineOf line) ≡ true → said ≡ askStep (held r) (lineOf line) → Answers r readable body line given said
+  unfolding nameAt
+  only-asks e f =
+      record {
+        told = ap (tells r) f ∙ sym (asks-only r readable body (lineOf line) e);
+        unnamed = none-wanted given line (asks-none (length line) (lineOf line) e);
+      }
+
+  pub engagement-answers : {form : Line} {actor category day s : ℕ} → ((powers : List ℕ) → Read line powers form powers (engagementOf line)) →
+      form ≡ Engagement actor category day s → said ≡ engagedBy (held r) line actor category day s → Answers r readable body line given said
+  unfolding asked
+  engagement-answers {actor = actor} {category = category} {day = day} {s = s} w e f =
+      let read : asked line (Engagement actor category day s) [] ≡ engagementOf line = ap (λ y. asked line y []) (sym e) ∙ w [] .says in
+      let whole : asked line (Engagement actor category day s) [] ≡ lineOf line = by-itself line read in
+      let known : onlyAsks (lineOf line) ≡ true =
+      ap onlyAsks (sym whole) ∙ sym (asks-engagement (held r) line [] actor category day s .0) in
+      only-asks known
+      (f ∙ engaged-within (held r) line [] actor category day s (within-form (w []) e) ∙ ap (askStep (held r)) whole)
+
+pub ask-answers : (r : Register) (readable : Bool) (body line : List ℕ) (given : Bool) (x : Asking) →
+    x ≡ record { asks = onlyAsks (lineOf line); said = askStep (held r) (lineOf line) } → x .asks ≡ true → Answers r readable body line given (x .said)
+ask-answers r readable body line given x e k =
+    only-asks r readable body line given (x .said) (sym (ap (λ (y : Asking). y .asks) e) ∙ k) (ap (λ (y : Asking). y .said) e)
+
+-- ---- a step of the walk
+
+-- a line was answered: what is known of the register, the number, the places and the output
+pub told-on : (w : Walked) (line : List ℕ) (t : Told) (s : Register) (said : Said) (n to out : ℕ) (output : List ℕ) →
+    tells s said ≡ t → n ≡ next (w .number) → to ≡ w .at + (length line + 1) → output ≡ answerPut (w .output) (w .out) n said →
+    out ≡ answerEnd (w .output) (w .out) n said →
+    record { register = s; number = n; at = to; output = output; out = out; wants = Input } ≡ tellsOn w line t
+told-on w line t s said n to out output e f g h k =
+    subst (λ t. record { register = s; number = n; at = to; output = output; out = out; wants = Input } ≡ tellsOn w line t) e (rw (k, h, g, f))
+
+module _ (readable : Bool) (body : List ℕ) (given : Bool) (w : Walked) where
+  pub walk-none : walk readable body given w [] ≡ stops w Input
+  unfolding walk
+  walk-none = refl
+
+  module _ (line : List ℕ) (ls : List (List ℕ)) where
+    pub walk-room : hasRoom (w .output) (w .out) ≡ false → walk readable body given w (line ∷ ls) ≡ stops w Room
+    unfolding walk
+    walk-room e = rw e
+
+    pub walk-file : hasRoom (w .output) (w .out) ≡ true → 0 < wanted given line →
+        walk readable body given w (line ∷ ls) ≡ stops w (File (w .at + wanted given line) (w .at + length line))
+    unfolding walk
+    walk-file e h = let f : eqb (wanted given line) 0 ≡ false = ne-eqb (wanted given line) 0 (λ q. omega (arith, q, h)) in rw (e, f)
+
+    pub walk-on : (x : Walked) → hasRoom (w .output) (w .out) ≡ true → wanted given line ≡ 0 → x ≡ answered readable body w line →
+        walk readable body given w (line ∷ ls) ≡ walk readable body false x ls
+    unfolding walk
+    walk-on x e f g = rw (e, f, g)
+
+-- ---- the lines of an input
+
+module _ (readable : Bool) (body : List ℕ) (given : Bool) (w : Walked) (input : List ℕ) (stop : ℕ) (e : LineEnd input (w .at) stop) where
+  abbrev line : List ℕ
+  line = take (stop - w .at) (drop (w .at) input)
+
+  pub line-length : stop ≤ length input → length line ≡ stop - w .at
+  line-length h = length-take-le (stop - w .at) (drop (w .at) input) (rw length-drop (omega arith))
+
+  pub over : length input ≤ stop → walk readable body given w (linesIn (drop (w .at) input)) ≡ stops w Input
+  over h = rw (lines-over input (w .at) stop e h) (walk-none readable body given w)
+
+  pub here-room : stop < length input → hasRoom (w .output) (w .out) ≡ false →
+      walk readable body given w (linesIn (drop (w .at) input)) ≡ stops w Room
+  here-room h k = rw (lines-here input (w .at) stop e h) (walk-room readable body given w line _ k)
+
+  pub here-file : stop < length input → hasRoom (w .output) (w .out) ≡ true → (name : ℕ) → name ≡ wanted given line → 0 < name →
+      walk readable body given w (linesIn (drop (w .at) input)) ≡ stops w (File (w .at + name) stop)
+  here-file h k name f p =
+      let l : w .at + length line ≡ stop = omega (arith, line-length (e .within), e .after) in
+      rw (lines-here input (w .at) stop e h, walk-file readable body given w line _ k (rw f at p), l, f)
+
+  pub here-on : stop < length input → hasRoom (w .output) (w .out) ≡ true → wanted given line ≡ 0 → (s : Register) (said : Said) (n out : ℕ) (output : List ℕ) →
+      tells s said ≡ lineStep (w .register) readable body (lineOf line) → n ≡ next (w .number) → output ≡ answerPut (w .output) (w .out) n said →
+      out ≡ answerEnd (w .output) (w .out) n said →
+      walk readable body given w (linesIn (drop (w .at) input))
+      ≡ walk readable body false (record { register = s; number = n; at = stop + 1; output = output; out = out; wants = Input }) (linesIn (drop (stop + 1) input))
+  here-on h k f s said n out output t a b c =
+      let l : stop + 1 ≡ w .at + (length line + 1) = omega (arith, line-length (e .within), e .after) in
+      rw (lines-here input (w .at) stop e h) (walk-on readable body given w line _ _ k f (told-on w line _ s said n (stop + 1) out output t a l b c))
+
+-- a part of a span
+cut-rest : (s : List ℕ) (from n to : ℕ) → drop n (cut s from to) ≡ cut s (from + n) to
+cut-rest s from n to =
+    let e : to - from - n ≡ to - (from + n) = omega arith in
+    drop-take n (to - from) (drop from s) ∙ rw (e, drop-drop n from s)
+
+pub none : {n : ℕ} → n ≤ 0 → n ≡ 0
+none h = omega (arith, h)
+
+-- ---- how far the walk is
+
+-- what the lines from here on come to is what all lines come to; the places are in their bounds, and the output is as long as it was
+pub record Going (input : List ℕ) (readable : Bool) (body : List ℕ) (given₀ : Bool) (w₀ : Walked) (given : Bool) (w : Walked) : Type 0 where
+  pub on : walk readable body given₀ w₀ (linesIn (drop (w₀ .at) input)) ≡ walk readable body given w (linesIn (drop (w .at) input))
+  pub reached : w₀ .at ≤ length input → w .at ≤ length input
+  pub room : w₀ .out ≤ length (w₀ .output) → w .out ≤ length (w₀ .output)
+  pub as-long : length (w .output) ≡ length (w₀ .output)
+
+pub begins : (input : List ℕ) (readable : Bool) (body : List ℕ) (given : Bool) (w : Walked) → Going input readable body given w given w
+begins input readable body given w = record { on = refl; reached = λ h. h; room = λ h. h; as-long = refl }
+
+module _ {input : List ℕ} {readable : Bool} {body : List ℕ} {given₀ : Bool} {w₀ : Walked} {given : Bool} {w : Walked} (g : Going input readable body given₀ w₀ given w) where
+  -- the walk stops: what is told of it
+  abbrev Stopped : Wants → Type 0
+  Stopped want =
+      (stops w want ≡ walk readable body given₀ w₀ (linesIn (drop (w₀ .at) input)))
+      × Progressed input (w₀ .at) (w₀ .output) (w₀ .out) (record { head = w .register .head; number = w .number; at = w .at; out = w .out; wants = want })
+
+  stopped : (want : Wants) → walk readable body given w (linesIn (drop (w .at) input)) ≡ stops w want → NamedIf input (w .at) want → Stopped want
+  stopped want k n = (sym (g .on ∙ k), record { reached = g .reached; room = g .room; named = n })
+
+  pub past-end : length input ≤ w .at → Stopped Input
+  unfolding linesIn
+  past-end h = stopped Input (rw (drop-of-length-le input h) (walk-none readable body given w)) (omega arith)
+
+  module _ {stop : ℕ} (e : LineEnd input (w .at) stop) where
+    abbrev its-line : List ℕ
+    its-line = cut input (w .at) stop
+
+    pub at-end : stop ≡ length input → Stopped Input
+    at-end h = stopped Input (over readable body given w input stop e (omega (arith, h))) (omega arith)
+
+    module _ (here : stop ≡ length input → ⊥) {t : Bool} (room : t ≡ hasRoom (w .output) (w .out)) where
+      inside : stop < length input
+      inside = omega (arith, e .within, here)
+
+      pub at-room : t ≡ false → Stopped Room
+      at-room f = stopped Room (here-room readable body given w input stop e inside (sym room ∙ f)) (omega arith)
+
+      module _ (f : t ≡ true) where
+        pub at-file : {name : ℕ} → (name ≡ wanted given its-line) × (0 < name → NamedIn its-line name) → 0 < name → Stopped (File (w .at + name) stop)
+        at-file {name} p h =
+            let n = p .1 h in
+            let l = line-length readable body given w input stop e (e .within) in
+            let i = n .inside in
+            let r = e .after in
+            stopped (File (w .at + name) stop) (here-file readable body given w input stop e inside (sym room ∙ f) name (p .0) h)
+            (record {
+              after = omega (arith, l, i, r);
+              inside = e .within;
+              submitter = n .submitter;
+              line = n .files ∙ ap (file (n .submitter)) (cut-rest input (w .at) name stop);
+            })
+
+        pub goes-on : {s : Register} {said : Said} {n out : ℕ} {output : List ℕ} → tells s said ≡ lineStep (w .register) readable body (lineOf its-line) →
+            wanted given its-line ≡ 0 → n ≡ next (w .number) →
+            (output ≡ answerPut (w .output) (w .out) n said) × (out ≡ answerEnd (w .output) (w .out) n said) × (out ≤ w .out + 64) → length output ≡ length (w .output) →
+            Going input readable body given₀ w₀ false (record { register = s; number = n; at = stop + 1; output = output; out = out; wants = Input })
+        goes-on {s} {said} {n} {out} {output} a b c d k =
+            let h = leb-true (w .out + 64) (length (w .output)) (sym room ∙ f) in
+            let j = d .2 in
+            record {
+              on = g .on ∙ here-on readable body given w input stop e inside (sym room ∙ f) b s said n out output a c (d .0) (d .1);
+              reached = λ q. omega (arith, inside);
+              room = λ q. omega (arith, h, j, g .as-long);
+              as-long = k ∙ g .as-long;
+            }

@@ -1,0 +1,76 @@
+-- A SCRIPT (document 01, "The script program"): which lines an input has, and what is printed for them.
+use mathlib.Core.Bool.{Bool, false, cond}
+use mathlib.Core.List.{List, [], _∷_, _++_}
+use Prim.Native.Nat.{ℕ, suc}
+use lib.Dec.{eqb}
+use Rattle.ledger.specs.Ledger.{Ledger}
+use Rattle.ledger.specs.Call as Call
+use Rattle.ledger.specs.Calls.{step}
+use Rattle.ledger.specs.Asking.{askEngagement, askRecord}
+use Rattle.answers.specs.declared.Said.{Said}
+use Rattle.answers.specs.Values.{saidOf, saidEngaged, saidShown, saidRefused}
+use Rattle.script.specs.Lines.{Asked, advance, enrolActor, enrolCategory, load, file, engagement, recordOf, unknown, lineOf}
+use Rattle.script.specs.Answers.{answerLine}
+use Rattle.session.specs.Lines.{noCall}
+
+-- ---- the lines
+
+abbrev pub lf : ℕ
+lf = 10
+
+-- "(the last may lack it)": bytes that no LF ends are a line; where there are none, there is no such line
+abbrev pub lastLine : List ℕ → List (List ℕ)
+lastLine [] = []
+lastLine (b ∷ s) = (b ∷ s) ∷ []
+
+-- "each ended by an LF that isn't counted": the lines of what comes after the bytes with which a line has begun
+unfoldable pub linesAfter : List ℕ → List ℕ → List (List ℕ)
+linesAfter begun [] = lastLine begun
+linesAfter begun (b ∷ s) = cond (eqb b lf) (begun ∷ linesAfter [] s) (linesAfter (begun ++ b ∷ []) s)
+
+-- THE LINES OF AN INPUT
+abbrev pub linesOf : List ℕ → List (List ℕ)
+linesOf input = linesAfter [] input
+
+-- ---- the answers
+
+-- what is found under a name: whether there is a file that can be read, and its bytes
+pub record Found : Type 0 where
+  pub readable : Bool
+  pub body : List ℕ
+
+-- "(the body is the file of that name)": what is found for the line of a number, by the name that it has
+abbrev pub Files : Type 0
+Files = ℕ → List ℕ → Found
+
+-- the ledger that a line leaves, and what it says
+pub record Line : Type 0 where
+  pub ledger : Ledger
+  pub said : Said
+
+abbrev pub called : Ledger → Call.Call → Line
+called l c = record { ledger = step l c .ledger; said = saidOf (step l c .answer) }
+
+abbrev pub says : Ledger → Said → Line
+says l said = record { ledger = l; said = said }
+
+abbrev pub filed : Ledger → List ℕ → List ℕ → Found → Line
+filed l submitter name f = cond (f .readable) (called l (Call.file submitter name (f .body))) (says l (saidRefused noCall))
+
+-- a line is its call of the ledger, or it asks, or it is 11
+unfoldable pub lineSays : Files → Ledger → ℕ → Asked → Line
+lineSays files l n (advance day minute) = called l (Call.advance day minute)
+lineSays files l n (enrolActor code first last) = called l (Call.enrolActor code first last)
+lineSays files l n (enrolCategory text) = called l (Call.enrolCategory text)
+lineSays files l n (load actor category day approved powers) = called l (Call.load actor category day approved powers)
+lineSays files l n (file submitter name) = filed l submitter name (files n name)
+lineSays files l n (engagement actor category day s) = says l (saidEngaged (askEngagement l actor category day s))
+lineSays files l n (recordOf asker id) = says l (saidShown (askRecord l asker id))
+lineSays files l n unknown = says l (saidRefused noCall)
+
+-- "For each line it prints the line's number, then ..": WHAT IS PRINTED FOR LINES, of which the first has the number n, each answered by
+-- the ledger as the line before left it
+unfoldable pub printed : Files → Ledger → ℕ → List (List ℕ) → List ℕ
+printed files l n [] = []
+printed files l n (line ∷ ls) =
+    answerLine n (lineSays files l n (lineOf line) .said) ++ printed files (lineSays files l n (lineOf line) .ledger) (suc n) ls

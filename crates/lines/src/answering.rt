@@ -1,0 +1,175 @@
+// Lines answered one after the other, as far as they go without a file, more input or more room.
+ghost use mathlib.Core.Path.{_≡_};
+ghost use Prim.Native.Nat.{_<_};
+ghost use lib.ListN.{drop};
+ghost use Rattle.notification.specs.Reading.{linesIn};
+ghost use Rattle.lines.specs.Walking.{hasRoom, wanted, NamedIn, walk, Progressed};
+use crate::ends::line_end;
+use register::Head;
+use script::reading::Line;
+use script::reading::read_engagement;
+use script::reading::read_line;
+use script::writing::LINE_ROOM;
+use script::writing::write_answer;
+use session::answering::answer;
+use session::asking::ask;
+use session::asking::engaged;
+use std::num::wrapping_add_u64;
+
+// What the lines want before they go on.
+pub enum Wants {
+    // more input: no line is left that has its LF
+    Input,
+    // the file that the next line names: its name is the input from the first place to before the second
+    File(usize, usize),
+    // room for an answer: those that wait have to be written first
+    Room,
+}
+
+// How far the lines went: the register's head, how many lines were answered so far, where the next one starts, how many bytes of answers
+// wait, and what is wanted.
+pub struct Progress {
+    pub head: Head,
+    pub number: u64,
+    pub at: usize,
+    pub out: usize,
+    pub wants: Wants,
+}
+
+// Whether there is room for the longest answer behind those that wait.
+fn has_room(output: &[u8], out: usize) -> bool
+    ensures { λ r. ⌜ r ≡ hasRoom (now (output .entry)) out ⌝ }
+{
+    if output.len() < LINE_ROOM {
+        return false;
+    }
+    out <= output.len() - LINE_ROOM
+}
+
+// Whether a line begins as one that is a call does: T, A, C, L or F.
+fn may_call(line: &[u8]) -> bool {
+    if line.len() == 0 {
+        return false;
+    }
+    match line[0] {
+        b'T' | b'A' | b'C' | b'L' | b'F' => true,
+        _ => false,
+    }
+}
+
+// Where the name of the file starts that a line names, unless the file is given; 0 where it names none.
+fn name_in(line: &[u8], given: bool) -> usize
+    ensures { λ r. ⌜ (r ≡ wanted given (now (line .entry))) × (0 < r → NamedIn (now (line .entry)) r) ⌝ }
+{
+    if given {
+        return 0;
+    }
+    if line.len() == 0 {
+        return 0;
+    }
+    if line[0] != b'F' {
+        return 0;
+    }
+    let mut powers = [0u32; 256];
+    let asked = read_line(line, &mut powers);
+    if let Line::File(submitter) = asked {
+        return submitter as usize + 1;
+    }
+    0
+}
+
+// Answers the lines of the input from a place on that have their LF, and puts their answers behind those that wait in the output. A line
+// that names a file is answered by what was found of it: `given` says whether that is known of the first line, `readable` whether
+// the file can be read, and `body` has its bytes.
+pub fn answer_lines(
+    head: Head,
+    keys: &mut [u32; 256],
+    marks: &mut [[u8; 4]; 256],
+    rows: &mut [[u16; 50]; 256],
+    loads: &mut [[u16; 50]; 64],
+    number: u64,
+    input: &[u8],
+    at: usize,
+    output: &mut [u8],
+    out: usize,
+    given: bool,
+    readable: bool,
+    body: &[u8],
+) -> Progress
+    ensures { λ r. ⌜ (record { register = record { head = r .head; columns = record { keys = now (keys .exit); marks = now (marks .exit); rows = now (rows .exit) }; loads = now (loads .exit) }; number = r .number; at = r .at; output = now (output .exit); out = r .out; wants = r .wants } ≡ walk readable (now (body .entry)) given (record { register = record { head = head; columns = record { keys = now (keys .entry); marks = now (marks .entry); rows = now (rows .entry) }; loads = now (loads .entry) }; number = number; at = at; output = now (output .entry); out = out; wants = Wants.Input }) (linesIn (drop at (now (input .entry))))) × Progressed (now (input .entry)) at (now (output .entry)) out r ⌝ }
+{
+    let mut head = head;
+    let mut number = number;
+    let mut at = at;
+    let mut out = out;
+    let mut given = given;
+    while at < input.len() {
+        let stop = line_end(input, at);
+        if stop == input.len() {
+            break;
+        }
+        if !has_room(&*output, out) {
+            return Progress {
+                head,
+                number,
+                at,
+                out,
+                wants: Wants::Room,
+            };
+        }
+        let line = &input[at..stop];
+        let next = wrapping_add_u64(number, 1);
+        if let Line::Engagement(actor, category, day, step) = read_engagement(line) {
+            let said = engaged(
+                head,
+                &*keys,
+                &*marks,
+                &*rows,
+                &*loads,
+                line,
+                actor,
+                category,
+                day,
+                step,
+            );
+            out = write_answer(next, said, &mut *output, out);
+            number = next;
+            at = stop + 1;
+            given = false;
+            continue;
+        }
+        if !may_call(line) {
+            let asking = ask(head, &*keys, &*marks, &*rows, &*loads, line);
+            if asking.asks {
+                out = write_answer(next, asking.said, &mut *output, out);
+                number = next;
+                at = stop + 1;
+                given = false;
+                continue;
+            }
+        }
+        let name = name_in(line, given);
+        if 0 < name {
+            return Progress {
+                head,
+                number,
+                at,
+                out,
+                wants: Wants::File(at + name, stop),
+            };
+        }
+        let turn = answer(head, keys, marks, rows, loads, line, readable, body);
+        head = turn.head;
+        out = write_answer(next, turn.said, &mut *output, out);
+        number = next;
+        at = stop + 1;
+        given = false;
+    }
+    Progress {
+        head,
+        number,
+        at,
+        out,
+        wants: Wants::Input,
+    }
+}
