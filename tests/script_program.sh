@@ -3,12 +3,14 @@
 set -euo pipefail
 cd "$(dirname "${BASH_SOURCE[0]}")/.."
 root=$PWD
-for tool in rt valgrind; do
+for tool in rt cc valgrind; do
     if ! command -v "$tool" > /dev/null; then
         echo "The test of the script program needs '$tool', which is not on the PATH." >&2
         exit 1
     fi
 done
+source tests/script_program.bash
+program=$script_program
 for example in examples/*/; do
     if ! cmp <(./run "$example") "$example/expected"; then
         echo "$example: other answers than expected" >&2
@@ -20,7 +22,6 @@ done
 work=$(mktemp -d)
 trap 'rm -rf "$work"' EXIT
 cd "$work"
-program=$root/target/bin/register_script
 cases=0
 
 # compares the answers to the file `input` with the lines given
