@@ -7,13 +7,8 @@ if [[ ! -x $script_program || -n $(find crates.txt crates c/register_script.c -n
             exit 1
         fi
     done
-    if [[ -e crates/register_script/src/main.rt ]]; then
-        rt check register_script >&2 || exit 1
-        touch "$script_program"
-    else
     rt staticlib register_script >&2 || exit 1
     mkdir -p target/bin
     cc -std=c11 -O2 -Wall -Wextra -Werror c/register_script.c target/staticlib/libregister_script.a \
         "$(dirname "$(readlink -f "$(command -v rt)")")/../lib/libos_c.a" -o "$script_program" >&2 || exit 1
-    fi
 fi
