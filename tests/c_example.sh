@@ -1,6 +1,6 @@
 #!/usr/bin/env bash
-# The C program over the static library: compiled with every warning an error, its output compared with the stored one, then run under
-# valgrind.
+# The C programs over the static library, compiled with every warning an error: the example, its output compared with the stored one, then
+# run under valgrind; and the longest name and body, which must have the lengths that the header gives.
 set -euo pipefail
 cd "$(dirname "${BASH_SOURCE[0]}")/.."
 for tool in rt cc valgrind; do
@@ -16,4 +16,6 @@ cc -std=c11 -Wall -Wextra -Werror -I c c/example.c "$library" -o "$folder/exampl
 "$folder/example" > "$folder/stdout"
 diff c/example.stdout "$folder/stdout"
 valgrind --error-exitcode=1 --leak-check=full -q "$folder/example" > /dev/null
+cc -std=c11 -Wall -Wextra -Werror -I c c/longest.c "$library" -o "$folder/longest"
+"$folder/longest"
 echo "the C example prints what it must, and is clean under valgrind"

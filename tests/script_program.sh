@@ -3,12 +3,14 @@
 set -euo pipefail
 cd "$(dirname "${BASH_SOURCE[0]}")/.."
 root=$PWD
-for tool in rt valgrind; do
+for tool in rt cc valgrind; do
     if ! command -v "$tool" > /dev/null; then
         echo "The test of the script program needs '$tool', which is not on the PATH." >&2
         exit 1
     fi
 done
+source tests/script_program.bash
+program=$script_program
 for example in examples/*/; do
     if ! cmp <(./run "$example") "$example/expected"; then
         echo "$example: other answers than expected" >&2
@@ -20,7 +22,6 @@ done
 work=$(mktemp -d)
 trap 'rm -rf "$work"' EXIT
 cd "$work"
-program=$root/target/bin/register_script
 cases=0
 
 # compares the answers to the file `input` with the lines given
@@ -74,7 +75,11 @@ if [[ $(wc -l < output) -ne 200000 || $(tail -n 1 output) != 200000,no,11,0 ]]; 
 fi
 cases=$((cases + 1))
 
-printf 'C,131\0020\n\0\nC,13120\n' > input
+printf 'C,131\00020\n\000\nC,13120\n' > input
+if [[ $(od -An -v -t x1 -N 11 input) != " 43 2c 31 33 31 00 32 30 0a 00 0a" ]]; then
+    echo "NUL: there is no byte of 0 in the input" >&2
+    exit 1
+fi
 answers "NUL" 1,no,9,0 2,no,11,0 3,ok,1
 printf 'C,\377\200\n\377\nA,\351,20210101,20211231\n' > input
 answers "bytes above 127" 1,no,9,0 2,no,11,0 3,no,9,0

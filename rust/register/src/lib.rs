@@ -173,7 +173,7 @@ impl Register {
         let Register { head, keys, marks, rows, loads } = self;
         let turn = ffi::file(head, keys, marks, rows, loads, submitter, name, body);
         let [id, letter, from] = self.take(&turn)?;
-        Ok(Filed { id, status: Status::known(letter as u8), from })
+        Ok(Filed { id, status: Status::known(letter), from })
     }
 
     /// An actor's own engagement at a step, in MW: loaded power, plus what it acquires, less what it cedes. Refused by 22, 23 and 10.
@@ -198,7 +198,7 @@ impl Register {
             steps: shown.steps,
             powers: shown.powers,
         };
-        let (submitter, status) = (Code(shown.submitter), Status::known(shown.status));
+        let (submitter, status) = (Code(shown.submitter), Status::known(shown.status.into()));
         Ok(Record { submitter, notification, status, from: shown.from, until: shown.until })
     }
 

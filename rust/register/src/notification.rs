@@ -49,14 +49,14 @@ impl FromStr for Code {
     }
 }
 
-/// Any text of 5 or 6 bytes; another length is refused by 9.
+/// Any text of 5 bytes, or of 6 of which the last isn't 0, since that 0 stands for no text; all others are refused by 9.
 impl FromStr for Category {
     type Err = Refusal;
 
     fn from_str(text: &str) -> Result<Category, Refusal> {
         match *text.as_bytes() {
             [a, b, c, d, e] => Ok(Category([a, b, c, d, e, 0])),
-            [a, b, c, d, e, f] => Ok(Category([a, b, c, d, e, f])),
+            [a, b, c, d, e, f] if f != 0 => Ok(Category([a, b, c, d, e, f])),
             _ => Err(WRONG_FORM),
         }
     }
@@ -86,6 +86,11 @@ impl fmt::Debug for Category {
     }
 }
 
+/// A length as a count of steps. One that has no place in 32 bits is the greatest count: too many steps as well.
+fn count(length: usize) -> u32 {
+    u32::try_from(length).unwrap_or(u32::MAX)
+}
+
 /// What a notification file says: a key and a power in MW for each step of its day.
 #[derive(Clone, Copy, Debug, PartialEq, Eq)]
 pub struct Notification {
@@ -108,7 +113,7 @@ impl Notification {
     pub fn new(ceder: Code, acquirer: Code, category: Category, day: Day, powers: &[u16]) -> Notification {
         let mut all = [0; STEPS];
         all.iter_mut().zip(powers).for_each(|(to, power)| *to = *power);
-        Notification { ceder, acquirer, category, day, steps: powers.len() as u32, powers: all }
+        Notification { ceder, acquirer, category, day, steps: count(powers.len()), powers: all }
     }
 
     /// The powers of the day's steps.
@@ -146,5 +151,21 @@ impl Notification {
         let written = ffi::write(flat, name, body);
         Refusal::unless_accepted(written.number, written.place)?;
         Ok((written.name, written.body))
+    }
+}
+
+#[cfg(test)]
+mod tests {
+    use super::count;
+
+    #[test]
+    fn no_count_is_cut_to_its_last_32_bits() {
+        assert_eq!([0, 46, 50, 51].map(count), [0, 46, 50, 51]);
+        assert_eq!(count(u32::MAX as usize), u32::MAX);
+        for cut in [0, 46, 48, 50, 51] {
+            assert_eq!(count((1 << 32) + cut), u32::MAX);
+            assert_eq!(count((1 << 63) + cut), u32::MAX);
+        }
+        assert_eq!(count(usize::MAX), u32::MAX);
     }
 }

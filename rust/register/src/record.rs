@@ -35,8 +35,8 @@ impl Status {
     }
 
     /// The status of a register that only calls have changed.
-    pub(crate) fn known(letter: u8) -> Status {
-        Status::of(letter).expect("a record has one of the six statuses")
+    pub(crate) fn known(letter: u32) -> Status {
+        u8::try_from(letter).ok().and_then(Status::of).expect("a record has one of the six statuses")
     }
 }
 
