@@ -3,3 +3,5 @@ pub mod Breaks
 pub mod Fronts
 pub mod Names
 pub mod Walks
+pub mod Cutting
+pub mod Printing

@@ -24,7 +24,8 @@ use Rattle.session.specs.declared.asking.Asking.{Asking}
 use Rattle.session.specs.Lines.{onlyAsks, askStep, engagedBy, lineStep}
 use Rattle.session.proofs.Spans.{asks-only, asks-engagement, engaged-within, within-form}
 use Rattle.lines.proofs.Fronts.{drop-take}
-use Rattle.lines.specs.Walking.{Walked, hasRoom, next, nameFrom, nameAt, wanted, stops, tellsOn, answered, walk, NamedIn, Named, NamedIf, Progressed}
+use Rattle.lines.specs.Scripts.{Line as Done, lineSays}
+use Rattle.lines.specs.Walking.{Walked, stands, hasRoom, next, nameFrom, nameAt, wanted, stops, tellsOn, answered, walk, NamedIn, Named, NamedIf, Progressed}
 use Rattle.lines.specs.declared.answering.Progress.{Progress}
 use Rattle.lines.specs.declared.answering.Wants.{Wants}
 use Rattle.lines.specs.declared.answering.Wants.the-variants.{Input, File, Room}
@@ -88,13 +89,32 @@ ask-answers r readable body line given x e k =
 
 -- ---- a step of the walk
 
+-- a line's step is that of the ledger
+says-step : (r : Register) (readable : Bool) (body : List ℕ) (a : Asked) →
+    lineSays (held r) (record { readable = readable; body = body }) a
+    ≡ record { ledger = lineStep r readable body a .ledger; said = lineStep r readable body a .said }
+unfolding lineSays lineStep
+says-step r readable body (advance day minute) = refl
+says-step r readable body (enrolActor code first last) = refl
+says-step r readable body (enrolCategory text) = refl
+says-step r readable body (load actor category day approved powers) = refl
+says-step r true body (file submitter name) = refl
+says-step r false body (file submitter name) = refl
+says-step r readable body (engagement actor category day s) = refl
+says-step r readable body (recordOf asker id) = refl
+says-step r readable body unknown = refl
+
 -- a line was answered: what is known of the register, the number, the places and the output
-pub told-on : (w : Walked) (line : List ℕ) (t : Told) (s : Register) (said : Said) (n to out : ℕ) (output : List ℕ) →
-    tells s said ≡ t → n ≡ next (w .number) → to ≡ w .at + (length line + 1) → output ≡ answerPut (w .output) (w .out) n said →
-    out ≡ answerEnd (w .output) (w .out) n said →
-    record { register = s; number = n; at = to; output = output; out = out; wants = Input } ≡ tellsOn w line t
-told-on w line t s said n to out output e f g h k =
-    subst (λ t. record { register = s; number = n; at = to; output = output; out = out; wants = Input } ≡ tellsOn w line t) e (rw (k, h, g, f))
+pub told-on : (readable : Bool) (body : List ℕ) (w : Walked) (line : List ℕ) (s : Register) (said : Said) (n to out : ℕ) (output : List ℕ) → w .ledger ≡ held (w .register) →
+    tells s said ≡ lineStep (w .register) readable body (lineOf line) → n ≡ next (w .number) → to ≡ w .at + (length line + 1) →
+    output ≡ answerPut (w .output) (w .out) n said → out ≡ answerEnd (w .output) (w .out) n said →
+    stands s n to output out Input ≡ answered readable body w line
+told-on readable body w line s said n to out output d e f g h k =
+    let t = lineStep (w .register) readable body (lineOf line) in
+    let x : lineSays (w .ledger) (record { readable = readable; body = body }) (lineOf line) ≡ record { ledger = t .ledger; said = t .said } =
+        rw d (says-step (w .register) readable body (lineOf line)) in
+    subst (λ (y : Done). stands s n to output out Input ≡ tellsOn w line (t .register) y) (sym x)
+    (subst (λ (t : Told). stands s n to output out Input ≡ tellsOn w line (t .register) (record { ledger = t .ledger; said = t .said })) e (rw (k, h, g, f)))
 
 module _ (readable : Bool) (body : List ℕ) (given : Bool) (w : Walked) where
   pub walk-none : walk readable body given w [] ≡ stops w Input
@@ -138,14 +158,14 @@ module _ (readable : Bool) (body : List ℕ) (given : Bool) (w : Walked) (input 
       let l : w .at + length line ≡ stop = omega (arith, line-length (e .within), e .after) in
       rw (lines-here input (w .at) stop e h, walk-file readable body given w line _ k (rw f at p), l, f)
 
-  pub here-on : stop < length input → hasRoom (w .output) (w .out) ≡ true → wanted given line ≡ 0 → (s : Register) (said : Said) (n out : ℕ) (output : List ℕ) →
+  pub here-on : w .ledger ≡ held (w .register) → stop < length input → hasRoom (w .output) (w .out) ≡ true → wanted given line ≡ 0 → (s : Register) (said : Said) (n out : ℕ) (output : List ℕ) →
       tells s said ≡ lineStep (w .register) readable body (lineOf line) → n ≡ next (w .number) → output ≡ answerPut (w .output) (w .out) n said →
       out ≡ answerEnd (w .output) (w .out) n said →
       walk readable body given w (linesIn (drop (w .at) input))
-      ≡ walk readable body false (record { register = s; number = n; at = stop + 1; output = output; out = out; wants = Input }) (linesIn (drop (stop + 1) input))
-  here-on h k f s said n out output t a b c =
+      ≡ walk readable body false (stands s n (stop + 1) output out Input) (linesIn (drop (stop + 1) input))
+  here-on d h k f s said n out output t a b c =
       let l : stop + 1 ≡ w .at + (length line + 1) = omega (arith, line-length (e .within), e .after) in
-      rw (lines-here input (w .at) stop e h) (walk-on readable body given w line _ _ k f (told-on w line _ s said n (stop + 1) out output t a l b c))
+      rw (lines-here input (w .at) stop e h) (walk-on readable body given w line _ _ k f (told-on readable body w line s said n (stop + 1) out output d t a l b c))
 
 -- a part of a span
 cut-rest : (s : List ℕ) (from n to : ℕ) → drop n (cut s from to) ≡ cut s (from + n) to
@@ -164,9 +184,10 @@ pub record Going (input : List ℕ) (readable : Bool) (body : List ℕ) (given�
   pub reached : w₀ .at ≤ length input → w .at ≤ length input
   pub room : w₀ .out ≤ length (w₀ .output) → w .out ≤ length (w₀ .output)
   pub as-long : length (w .output) ≡ length (w₀ .output)
+  pub even : w .ledger ≡ held (w .register)
 
-pub begins : (input : List ℕ) (readable : Bool) (body : List ℕ) (given : Bool) (w : Walked) → Going input readable body given w given w
-begins input readable body given w = record { on = refl; reached = λ h. h; room = λ h. h; as-long = refl }
+pub begins : (input : List ℕ) (readable : Bool) (body : List ℕ) (given : Bool) (w : Walked) → w .ledger ≡ held (w .register) → Going input readable body given w given w
+begins input readable body given w e = record { on = refl; reached = λ h. h; room = λ h. h; as-long = refl; even = e }
 
 module _ {input : List ℕ} {readable : Bool} {body : List ℕ} {given₀ : Bool} {w₀ : Walked} {given : Bool} {w : Walked} (g : Going input readable body given₀ w₀ given w) where
   -- the walk stops: what is told of it
@@ -214,13 +235,14 @@ module _ {input : List ℕ} {readable : Bool} {body : List ℕ} {given₀ : Bool
         pub goes-on : {s : Register} {said : Said} {n out : ℕ} {output : List ℕ} → tells s said ≡ lineStep (w .register) readable body (lineOf its-line) →
             wanted given its-line ≡ 0 → n ≡ next (w .number) →
             (output ≡ answerPut (w .output) (w .out) n said) × (out ≡ answerEnd (w .output) (w .out) n said) × (out ≤ w .out + 64) → length output ≡ length (w .output) →
-            Going input readable body given₀ w₀ false (record { register = s; number = n; at = stop + 1; output = output; out = out; wants = Input })
+            Going input readable body given₀ w₀ false (stands s n (stop + 1) output out Input)
         goes-on {s} {said} {n} {out} {output} a b c d k =
             let h = leb-true (w .out + 64) (length (w .output)) (sym room ∙ f) in
             let j = d .2 in
             record {
-              on = g .on ∙ here-on readable body given w input stop e inside (sym room ∙ f) b s said n out output a c (d .0) (d .1);
+              on = g .on ∙ here-on readable body given w input stop e (g .even) inside (sym room ∙ f) b s said n out output a c (d .0) (d .1);
               reached = λ q. omega (arith, inside);
               room = λ q. omega (arith, h, j, g .as-long);
               as-long = k ∙ g .as-long;
+              even = refl;
             }

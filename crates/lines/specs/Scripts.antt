@@ -39,10 +39,6 @@ pub record Found : Type 0 where
   pub readable : Bool
   pub body : List ℕ
 
--- "(the body is the file of that name)": what is found for the line of a number, by the name that it has
-abbrev pub Files : Type 0
-Files = ℕ → List ℕ → Found
-
 -- the ledger that a line leaves, and what it says
 pub record Line : Type 0 where
   pub ledger : Ledger
@@ -54,23 +50,38 @@ called l c = record { ledger = step l c .ledger; said = saidOf (step l c .answer
 abbrev pub says : Ledger → Said → Line
 says l said = record { ledger = l; said = said }
 
-abbrev pub filed : Ledger → List ℕ → List ℕ → Found → Line
-filed l submitter name f = cond (f .readable) (called l (Call.file submitter name (f .body))) (says l (saidRefused noCall))
+-- A LINE is its call of the ledger, or it asks, or it is 11; "(the body is the file of that name)": what is found of it
+unfoldable pub lineSays : Ledger → Found → Asked → Line
+lineSays l f (advance day minute) = called l (Call.advance day minute)
+lineSays l f (enrolActor code first last) = called l (Call.enrolActor code first last)
+lineSays l f (enrolCategory text) = called l (Call.enrolCategory text)
+lineSays l f (load actor category day approved powers) = called l (Call.load actor category day approved powers)
+lineSays l f (file submitter name) = cond (f .readable) (called l (Call.file submitter name (f .body))) (says l (saidRefused noCall))
+lineSays l f (engagement actor category day s) = says l (saidEngaged (askEngagement l actor category day s))
+lineSays l f (recordOf asker id) = says l (saidShown (askRecord l asker id))
+lineSays l f unknown = says l (saidRefused noCall)
 
--- a line is its call of the ledger, or it asks, or it is 11
-unfoldable pub lineSays : Files → Ledger → ℕ → Asked → Line
-lineSays files l n (advance day minute) = called l (Call.advance day minute)
-lineSays files l n (enrolActor code first last) = called l (Call.enrolActor code first last)
-lineSays files l n (enrolCategory text) = called l (Call.enrolCategory text)
-lineSays files l n (load actor category day approved powers) = called l (Call.load actor category day approved powers)
-lineSays files l n (file submitter name) = filed l submitter name (files n name)
-lineSays files l n (engagement actor category day s) = says l (saidEngaged (askEngagement l actor category day s))
-lineSays files l n (recordOf asker id) = says l (saidShown (askRecord l asker id))
-lineSays files l n unknown = says l (saidRefused noCall)
+-- what is found for the line of a number, by the name that it has
+abbrev pub Files : Type 0
+Files = ℕ → List ℕ → Found
+
+-- the name of the file that a line names; no bytes where it names none
+abbrev pub nameOf : Asked → List ℕ
+nameOf (advance day minute) = []
+nameOf (enrolActor code first last) = []
+nameOf (enrolCategory text) = []
+nameOf (load actor category day approved powers) = []
+nameOf (file submitter name) = name
+nameOf (engagement actor category day s) = []
+nameOf (recordOf asker id) = []
+nameOf unknown = []
+
+-- the line of the number n
+abbrev pub answer : Files → Ledger → ℕ → List ℕ → Line
+answer files l n line = lineSays l (files n (nameOf (lineOf line))) (lineOf line)
 
 -- "For each line it prints the line's number, then ..": WHAT IS PRINTED FOR LINES, of which the first has the number n, each answered by
 -- the ledger as the line before left it
 unfoldable pub printed : Files → Ledger → ℕ → List (List ℕ) → List ℕ
 printed files l n [] = []
-printed files l n (line ∷ ls) =
-    answerLine n (lineSays files l n (lineOf line) .said) ++ printed files (lineSays files l n (lineOf line) .ledger) (suc n) ls
+printed files l n (line ∷ ls) = answerLine n (answer files l n line .said) ++ printed files (answer files l n line .ledger) (suc n) ls

@@ -5,13 +5,13 @@ use mathlib.Core.List.{List, [], _∷_}
 use Prim.Native.Nat.{ℕ, suc, _+_, _-_, _%_, _≤_}
 use lib.Dec.{eqb, leb, ltb}
 use lib.ListN.{length, take, drop, set}
-use Rattle.register.specs.View.{Register}
-use Rattle.turns.specs.Told.{Told}
+use Rattle.ledger.specs.Ledger.{Ledger}
+use Rattle.register.specs.View.{Register, held}
 use Rattle.script.specs.Lines.{Asked, advance, enrolActor, enrolCategory, load, file, engagement, recordOf, unknown, lineOf}
 use Rattle.script.specs.Spans.{cut}
 use Rattle.script.specs.Answers.{lineRoom, answerPut, answerEnd}
 use Rattle.session.specs.Lines.{lineStep}
-use Rattle.lines.specs.Scripts.{lf}
+use Rattle.lines.specs.Scripts.{lf, Line, lineSays}
 use Rattle.lines.specs.declared.answering.Wants.{Wants}
 use Rattle.lines.specs.declared.answering.Wants.the-variants.{Input, File, Room}
 use Rattle.lines.specs.declared.answering.Progress.{Progress}
@@ -38,14 +38,19 @@ endedAt input held = cond (isLast input held) (held + 1) 0
 
 -- ---- the walk
 
--- how far the lines went
+-- how far the lines went: the register, and the ledger that it holds
 pub record Walked : Type 0 where
   pub register : Register
+  pub ledger : Ledger
   pub number : ℕ
   pub at : ℕ
   pub output : List ℕ
   pub out : ℕ
   pub wants : Wants
+
+abbrev pub stands : Register → ℕ → ℕ → List ℕ → ℕ → Wants → Walked
+stands r number at output out want =
+    record { register = r; ledger = held r; number = number; at = at; output = output; out = out; wants = want }
 
 -- there is room for the longest answer behind those that wait
 abbrev pub hasRoom : List ℕ → ℕ → Bool
@@ -75,22 +80,26 @@ wanted given line = cond given 0 (nameAt line)
 
 -- the walk stops and wants something
 abbrev pub stops : Walked → Wants → Walked
-stops w want = record { register = w .register; number = w .number; at = w .at; output = w .output; out = w .out; wants = want }
+stops w want =
+    record { register = w .register; ledger = w .ledger; number = w .number; at = w .at; output = w .output; out = w .out; wants = want }
 
--- a line is answered, with what was found of its file
-abbrev pub tellsOn : Walked → List ℕ → Told → Walked
-tellsOn w line t =
+-- a line is answered: the register that it leaves, the ledger, and what it says
+abbrev pub tellsOn : Walked → List ℕ → Register → Line → Walked
+tellsOn w line r x =
     record {
-      register = t .register;
+      register = r;
+      ledger = x .ledger;
       number = next (w .number);
       at = w .at + (length line + 1);
-      output = answerPut (w .output) (w .out) (next (w .number)) (t .said);
-      out = answerEnd (w .output) (w .out) (next (w .number)) (t .said);
+      output = answerPut (w .output) (w .out) (next (w .number)) (x .said);
+      out = answerEnd (w .output) (w .out) (next (w .number)) (x .said);
       wants = Input;
     }
 
 abbrev pub answered : Bool → List ℕ → Walked → List ℕ → Walked
-answered readable body w line = tellsOn w line (lineStep (w .register) readable body (lineOf line))
+answered readable body w line =
+    tellsOn w line (lineStep (w .register) readable body (lineOf line) .register)
+    (lineSays (w .ledger) (record { readable = readable; body = body }) (lineOf line))
 
 -- lines are answered until there is none, no room, or one whose file isn't given yet
 unfoldable pub walk : Bool → List ℕ → Bool → Walked → List (List ℕ) → Walked

@@ -3,7 +3,7 @@ ghost use mathlib.Core.Path.{_≡_};
 ghost use Prim.Native.Nat.{_<_};
 ghost use lib.ListN.{drop};
 ghost use Rattle.notification.specs.Reading.{linesIn};
-ghost use Rattle.lines.specs.Walking.{hasRoom, wanted, NamedIn, walk, Progressed};
+ghost use Rattle.lines.specs.Walking.{stands, hasRoom, wanted, NamedIn, walk, Progressed};
 use crate::ends::line_end;
 use register::Head;
 use script::reading::Line;
@@ -96,7 +96,7 @@ pub fn answer_lines(
     readable: bool,
     body: &[u8],
 ) -> Progress
-    ensures { λ r. ⌜ (record { register = record { head = r .head; columns = record { keys = now (keys .exit); marks = now (marks .exit); rows = now (rows .exit) }; loads = now (loads .exit) }; number = r .number; at = r .at; output = now (output .exit); out = r .out; wants = r .wants } ≡ walk readable (now (body .entry)) given (record { register = record { head = head; columns = record { keys = now (keys .entry); marks = now (marks .entry); rows = now (rows .entry) }; loads = now (loads .entry) }; number = number; at = at; output = now (output .entry); out = out; wants = Wants.Input }) (linesIn (drop at (now (input .entry))))) × Progressed (now (input .entry)) at (now (output .entry)) out r ⌝ }
+    ensures { λ r. ⌜ (stands (record { head = r .head; columns = record { keys = now (keys .exit); marks = now (marks .exit); rows = now (rows .exit) }; loads = now (loads .exit) }) (r .number) (r .at) (now (output .exit)) (r .out) (r .wants) ≡ walk readable (now (body .entry)) given (stands (record { head = head; columns = record { keys = now (keys .entry); marks = now (marks .entry); rows = now (rows .entry) }; loads = now (loads .entry) }) number at (now (output .entry)) out Wants.Input) (linesIn (drop at (now (input .entry))))) × Progressed (now (input .entry)) at (now (output .entry)) out r ⌝ }
 {
     let mut head = head;
     let mut number = number;

@@ -6,6 +6,7 @@ use Prim.Native.Nat.{_-_}
 use native.Mathlib.Omega.{arith}
 use lib.ListN.{length}
 use Rattle.lines.proofs.Walks.{Going, begins, ask-answers, engagement-answers, goes-on, at-room, at-file, at-end, past-end, none}
+use Rattle.lines.specs.Walking.{stands}
 use Rattle.lines.specs.declared.answering.Wants.the-variants.{Input}
 use Rattle.lines.proofs.answering.answer_lines.Statement.{statement}
 use Rattle.lines.proofs.answering.answer_lines.Tie as tie
@@ -13,16 +14,16 @@ use Rattle.lines.proofs.answering.answer_lines.Tie as tie
 abbrev Inv-loop : tie.InvT-loop
 Inv-loop keys₀ marks₀ rows₀ loads₀ number input at output₀ out given readable body head₀ number₀ at₀ out₀ given₀ keys marks rows loads output head number' at' out' given' =
     Going input readable body given₀
-    (record { register = record { head = head₀; columns = record { keys = keys₀; marks = marks₀; rows = rows₀ }; loads = loads₀ }; number = number₀; at = at₀; output = output₀; out = out₀; wants = Input })
+    (stands (record { head = head₀; columns = record { keys = keys₀; marks = marks₀; rows = rows₀ }; loads = loads₀ }) number₀ at₀ output₀ out₀ Input)
     given'
-    (record { register = record { head = head; columns = record { keys = keys; marks = marks; rows = rows }; loads = loads }; number = number'; at = at'; output = output; out = out'; wants = Input })
+    (stands (record { head = head; columns = record { keys = keys; marks = marks; rows = rows }; loads = loads }) number' at' output out' Input)
 
 abbrev μ-loop : tie.MeasureT-loop
 μ-loop keys₀ marks₀ rows₀ loads₀ number input at output₀ out given readable body head₀ number₀ at₀ out₀ given₀ keys marks rows loads output head number' at' out' given' =
     length input - at'
 
 loop-holds : tie.Need-loop-holds Inv-loop μ-loop
-loop-holds c = begins _ _ _ _ _
+loop-holds c = begins _ _ _ _ _ refl
 
 line-end-requires : tie.Need-line-end-requires Inv-loop μ-loop
 line-end-requires c κs = search needs
