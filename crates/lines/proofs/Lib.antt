@@ -5,3 +5,4 @@ pub mod Names
 pub mod Walks
 pub mod Cutting
 pub mod Printing
+pub mod Blocks

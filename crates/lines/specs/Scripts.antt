@@ -32,6 +32,11 @@ linesAfter begun (b ∷ s) = cond (eqb b lf) (begun ∷ linesAfter [] s) (linesA
 abbrev pub linesOf : List ℕ → List (List ℕ)
 linesOf input = linesAfter [] input
 
+-- blocks of bytes, one after the other
+abbrev pub joined : List (List ℕ) → List ℕ
+joined [] = []
+joined (b ∷ bs) = b ++ joined bs
+
 -- ---- the answers
 
 -- what is found under a name: whether there is a file that can be read, and its bytes
