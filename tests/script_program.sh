@@ -11,7 +11,7 @@ for tool in rt cc valgrind; do
 done
 source tests/script_program.bash
 program=$script_program
-for example in examples/*/; do
+for example in examples/*/ tests/stored_run/; do
     if ! cmp <(./run "$example") "$example/expected"; then
         echo "$example: other answers than expected" >&2
         exit 1

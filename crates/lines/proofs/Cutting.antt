@@ -74,15 +74,15 @@ first-line [] line ls e = let z : _≡_ {A = ℕ} 0 1 = cc in absurd (omega arit
 first-line (b ∷ s) line ls e =
     by-test (eqb b 10)
     (λ t.
-        let k : [] ∷ linesIn s ≡ line ∷ ls = rw t at e in
-        let p : _≡_ {A = List ℕ} [] line = cc in
-        let q : linesIn s ≡ ls = cc in
-        record {
-          rest = s;
-          parts = ap (λ (c : ℕ). c ∷ s) (eqb-true b 10 t) ∙ ap (λ (l : List ℕ). l ++ 10 ∷ s) p;
-          others = q;
-          unbroken = rw (← p) refl;
-        })
+    let k : [] ∷ linesIn s ≡ line ∷ ls = rw t at e in
+    let p : _≡_ {A = List ℕ} [] line = cc in
+    let q : linesIn s ≡ ls = cc in
+    record {
+      rest = s;
+      parts = ap (λ (c : ℕ). c ∷ s) (eqb-true b 10 t) ∙ ap (λ (l : List ℕ). l ++ 10 ∷ s) p;
+      others = q;
+      unbroken = rw (← p) refl;
+    })
     (λ t. first-more b s line ls (linesIn s) (rw t refl) (λ l ks m. first-line s l ks m) (rw t at e))
 
 no-more : (b : ℕ) (ms : List (List ℕ)) → onto false b ms ≡ [] → ms ≡ []
@@ -106,10 +106,10 @@ cut-line text m =
     by-test (leb (length text) 513)
     (λ t. rw (take-all 513 text (leb-true (length text) 513 t)))
     (λ t.
-        let h = leb-false (length text) 513 t in
-        let a : 512 < length (text ++ m) = rw length-append (omega (arith, h)) in
-        let b : 512 < length (take 513 text ++ m) = rw (length-append, length-take) (omega (arith, h)) in
-        sym (line-long (take 513 text ++ m) b) ∙ line-long (text ++ m) a)
+    let h = leb-false (length text) 513 t in
+    let a : 512 < length (text ++ m) = rw length-append (omega (arith, h)) in
+    let b : 512 < length (take 513 text ++ m) = rw (length-append, length-take) (omega (arith, h)) in
+    sym (line-long (take 513 text ++ m) b) ∙ line-long (text ++ m) a)
 
 module _ (files : Files) (l : Ledger) (n : ℕ) where
   -- what is printed for a line hangs on what it asks
@@ -131,15 +131,15 @@ module _ (files : Files) (l : Ledger) (n : ℕ) where
   by-lines text more [] k e =
       let f = no-first more k in
       let a : linesOf (take 513 text ++ more) ≡ lastLine (take 513 text ++ more) =
-          of-last (take 513 text ++ more) (every-append inLine (take 513 text) more (every-take inLine 513 text e) f) in
+      of-last (take 513 text ++ more) (every-append inLine (take 513 text) more (every-take inLine 513 text e) f) in
       let b : linesOf (text ++ more) ≡ lastLine (text ++ more) = of-last (text ++ more) (every-append inLine text more e f) in
       by-test (leb (length text) 513)
       (λ t. rw (take-all 513 text (leb-true (length text) 513 t)))
       (λ t.
-          let h = leb-false (length text) 513 t in
-          let i : 0 < length (take 513 text ++ more) = rw (length-append, length-take) (omega (arith, h)) in
-          let j : 0 < length (text ++ more) = rw length-append (omega (arith, h)) in
-          rw (a, b) (same-last (take 513 text ++ more) (text ++ more) (cut-line text more) i j))
+      let h = leb-false (length text) 513 t in
+      let i : 0 < length (take 513 text ++ more) = rw (length-append, length-take) (omega (arith, h)) in
+      let j : 0 < length (text ++ more) = rw length-append (omega (arith, h)) in
+      rw (a, b) (same-last (take 513 text ++ more) (text ++ more) (cut-line text more) i j))
   by-lines text more (m ∷ ms) k e =
       let x = first-line more m ms k in
       let a = joins (take 513 text) more m (x .rest) (every-take inLine 513 text e) (x .unbroken) (x .parts) in

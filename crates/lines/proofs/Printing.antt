@@ -117,9 +117,9 @@ module _ (files : Files) (readable : Bool) (body : List ℕ) where
   out-grows given w (line ∷ ls) =
       by-test (hasRoom (w .output) (w .out))
       (λ t.
-          by-test (eqb (wanted given line) 0)
-          (λ u. rw (t, u) (le-trans (end-more (w .output) (w .out) _ _) (out-grows false (answered readable body w line) ls)))
-          (λ u. rw (t, u) (omega arith)))
+      by-test (eqb (wanted given line) 0)
+      (λ u. rw (t, u) (le-trans (end-more (w .output) (w .out) _ _) (out-grows false (answered readable body w line) ls)))
+      (λ u. rw (t, u) (omega arith)))
       (λ t. rw t (omega arith))
 
   -- one line is passed
@@ -138,12 +138,12 @@ module _ (files : Files) (readable : Bool) (body : List ℕ) where
       record {
         prints = λ more.
             let q : linesOf (text ++ more) ≡ line ∷ linesOf (rest ++ more) =
-                ap (λ (t : List ℕ). linesOf (t ++ more)) (x .parts) ∙ ap linesOf (append-assoc line (10 ∷ rest) more) ∙ of-first line (rest ++ more) (x .unbroken) in
+            ap (λ (t : List ℕ). linesOf (t ++ more)) (x .parts) ∙ ap linesOf (append-assoc line (10 ∷ rest) more) ∙ of-first line (rest ++ more) (x .unbroken) in
             let both : Line → ℕ → List ℕ =
-                λ d i. (take (w .out) (w .output) ++ answerLine i (d .said)) ++ printed files (d .ledger) (suc i) (linesOf (rest ++ more)) in
+            λ d i. (take (w .out) (w .output) ++ answerLine i (d .said)) ++ printed files (d .ledger) (suc i) (linesOf (rest ++ more)) in
             let before : take (w .out) (w .output) ++ printed files (w .ledger) n (linesOf (text ++ more)) ≡ both (answer files (w .ledger) n line) n =
-                ap (λ (ks : List (List ℕ)). take (w .out) (w .output) ++ printed files (w .ledger) n ks) q
-                ∙ sym (append-assoc (take (w .out) (w .output)) (answerLine n (answer files (w .ledger) n line .said)) (printed files (answer files (w .ledger) n line .ledger) (suc n) (linesOf (rest ++ more)))) in
+            ap (λ (ks : List (List ℕ)). take (w .out) (w .output) ++ printed files (w .ledger) n ks) q
+            ∙ sym (append-assoc (take (w .out) (w .output)) (answerLine n (answer files (w .ledger) n line .said)) (printed files (answer files (w .ledger) n line .ledger) (suc n) (linesOf (rest ++ more)))) in
             before ∙ sym (ap (λ (d : Line). both d n) a) ∙ sym (ap (both done) m)
             ∙ ap (λ (t : List ℕ). t ++ printed files (done .ledger) (suc (next (w .number))) (linesOf (rest ++ more)))
             (sym (put-behind (w .output) (w .out) (next (w .number)) (done .said) room fits));
@@ -206,18 +206,18 @@ module _ (files : Files) (readable : Bool) (body : List ℕ) where
   walk-prints given w text (line ∷ ls) e f few fits =
       by-test (hasRoom (w .output) (w .out))
       (λ t.
-          by-test (eqb (wanted given line) 0)
-          (λ u.
-              let v = answered readable body w line in
-              let x = first-line text line ls e in
-              let on = walk-on readable body given w line ls v t (eqb-true (wanted given line) 0 u) refl in
-              let g : walk readable body false v ls .out ≤ length (w .output) = subst (λ (y : Walked). y .out ≤ length (w .output)) on fits in
-              let one = one-line given w text line ls x e f (eqb-true (wanted given line) 0 u) t few (le-trans (out-grows false v ls) g) in
-              let later =
-                  walk-prints false v (x .rest) ls (x .others) (λ q. true-false true refl (sym q)) (lt-of-le-of-lt (one .fewer) few)
-                  (subst (λ (i : ℕ). walk readable body false v ls .out ≤ i) (sym (one .as-long)) g) in
-              subst (Left w text) (sym on) (left-on one later))
-          (λ u.
-              subst (Left w text) (sym (walk-file readable body given w line ls t (some (wanted given line) (eqb-false (wanted given line) 0 u))))
-              (left-file w text line ls (w .at + wanted given line) (w .at + length line) e refl)))
+      by-test (eqb (wanted given line) 0)
+      (λ u.
+      let v = answered readable body w line in
+      let x = first-line text line ls e in
+      let on = walk-on readable body given w line ls v t (eqb-true (wanted given line) 0 u) refl in
+      let g : walk readable body false v ls .out ≤ length (w .output) = subst (λ (y : Walked). y .out ≤ length (w .output)) on fits in
+      let one = one-line given w text line ls x e f (eqb-true (wanted given line) 0 u) t few (le-trans (out-grows false v ls) g) in
+      let later =
+      walk-prints false v (x .rest) ls (x .others) (λ q. true-false true refl (sym q)) (lt-of-le-of-lt (one .fewer) few)
+      (subst (λ (i : ℕ). walk readable body false v ls .out ≤ i) (sym (one .as-long)) g) in
+      subst (Left w text) (sym on) (left-on one later))
+      (λ u.
+      subst (Left w text) (sym (walk-file readable body given w line ls t (some (wanted given line) (eqb-false (wanted given line) 0 u))))
+      (left-file w text line ls (w .at + wanted given line) (w .at + length line) e refl)))
       (λ t. subst (Left w text) (sym (walk-room readable body given w line ls t)) (left-room w text))

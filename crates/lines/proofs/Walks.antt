@@ -112,7 +112,7 @@ pub told-on : (readable : Bool) (body : List ℕ) (w : Walked) (line : List ℕ)
 told-on readable body w line s said n to out output d e f g h k =
     let t = lineStep (w .register) readable body (lineOf line) in
     let x : lineSays (w .ledger) (record { readable = readable; body = body }) (lineOf line) ≡ record { ledger = t .ledger; said = t .said } =
-        rw d (says-step (w .register) readable body (lineOf line)) in
+    rw d (says-step (w .register) readable body (lineOf line)) in
     subst (λ (y : Done). stands s n to output out Input ≡ tellsOn w line (t .register) y) (sym x)
     (subst (λ (t : Told). stands s n to output out Input ≡ tellsOn w line (t .register) (record { ledger = t .ledger; said = t .said })) e (rw (k, h, g, f)))
 

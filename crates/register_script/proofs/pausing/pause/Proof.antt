@@ -48,10 +48,10 @@ use Rattle.libc.proofs.nanosleep as nanosleep
 use Rattle.libc.proofs.nanosleep.Symbol as nanosleep-def
 use Rattle.libc.proofs.nanosleep.Symbol.{name as #libc·nanosleep}
 use Rattle.libc.proofs.nanosleep.Met as nanosleep-thm
-use Rattle.pausing.proofs.pause.Key.{name as #pausing·pause}
-use Rattle.pausing.proofs.pause as pause
-use Rattle.pausing.proofs.pause.Statement as stated
-use Rattle.pausing.proofs.pause.Code as code
+use Rattle.register_script.proofs.pausing.pause.Key.{name as #pausing·pause}
+use Rattle.register_script.proofs.pausing.pause as pause
+use Rattle.register_script.proofs.pausing.pause.Statement as stated
+use Rattle.register_script.proofs.pausing.pause.Code as code
 
 abbrev stayed : Stays (pause.ended .signature .params) (pause.ended .kept)
 stayed = tt

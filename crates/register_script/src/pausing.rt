@@ -2,7 +2,7 @@
 use libc::types;
 
 // Lets a moment pass: a millisecond, or less where a signal comes. Its contract says nothing, since none can speak of time.
-pub fn pause() {
+pub(crate) fn pause() {
     let asked = types::timespec {
         tv_sec: 0,
         tv_nsec: 1000000,

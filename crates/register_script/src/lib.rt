@@ -1,0 +1,42 @@
+// The script program's input and output (document 01, "The script program"): standard input in, a line for each line out. Which lines
+// there are, what they ask and what they are answered is in the crates lines, session and script; here bytes are only moved.
+ghost use Prim.Native.Nat.{_≤_};
+
+mod bodies;
+mod input;
+mod output;
+mod pausing;
+mod running;
+mod trying;
+
+// The most bytes that are read at once.
+const BLOCK: usize = 65536;
+
+// The most bytes of answers that wait to be written: few, so that a short run touches little memory.
+const WAITING: usize = 16384;
+
+// The most bytes that are read of a file: one more than a body may have, which tells one that is too long.
+const BODY: usize = 4097;
+
+// Answers standard input to its end. 0: every answer was written; 1: the answers can't be written; 2: the input can't be read.
+#[no_mangle]
+pub extern "C" fn register_script() -> u32
+    ensures { λ r. ⌜ r ≤ 2 ⌝ }
+{
+    let mut keys = [0u32; 256];
+    let mut marks = [[0u8; 4]; 256];
+    let mut rows = [[0u16; 50]; 256];
+    let mut loads = [[0u16; 50]; 64];
+    let mut body = [0u8; BODY];
+    let mut input = [0u8; BLOCK];
+    let mut output = [0u8; WAITING];
+    running::run(
+        &mut keys,
+        &mut marks,
+        &mut rows,
+        &mut loads,
+        &mut body,
+        &mut input,
+        &mut output,
+    )
+}
