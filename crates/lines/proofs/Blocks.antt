@@ -20,7 +20,7 @@ use Rattle.register.specs.declared.Head.{Head}
 use Rattle.register.proofs.Runs.{Begun, begun-is}
 use Rattle.script.specs.Spans.{cut}
 use Rattle.lines.specs.Scripts.{linesOf, joined, Files, printed}
-use Rattle.lines.specs.Walking.{heldOf, ended, endedAt, Walked, stands, walk, Progressed}
+use Rattle.lines.specs.Walking.{heldOf, ended, endedAt, Walked, stands, walk, NamedIf}
 use Rattle.lines.specs.declared.answering.Wants.{Wants}
 use Rattle.lines.specs.declared.answering.Wants.the-variants.{Input, File, Room}
 use Rattle.lines.specs.declared.answering.Progress.{Progress}
@@ -138,8 +138,9 @@ pub record Walks (given readable : Bool) (body input : List ℕ) (w v : Walked) 
   pub is : v ≡ walk readable body given w (linesIn (drop (w .at) input))
   pub room : w .out ≤ length (w .output) → v .out ≤ length (w .output)
   pub even : v .ledger ≡ held (v .register)
+  pub named : NamedIf input (v .at) (v .wants)
 
 pub went-is : {given readable : Bool} {body input : List ℕ} {w v : Walked} → Went given readable body input w v → Walks given readable body input w v
 went-is (goes κs a y s e) =
     let p = e (asks-nothing .answer-lines κs a) in
-    record { is = p .0; room = p .1 .room; even = refl }
+    record { is = p .0; room = p .1 .room; even = refl; named = p .1 .named }

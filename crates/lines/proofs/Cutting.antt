@@ -12,7 +12,7 @@ use Rattle.lists.specs.Searches.{every}
 use Rattle.lists.proofs.Tests.{by-test, and-left, and-right, and-true}
 use Rattle.lists.proofs.Searches.{every-append, every-take}
 use Rattle.notification.specs.Reading.{onto, linesIn}
-use Rattle.notification.proofs.Lines.{inLine}
+use Rattle.notification.proofs.Lines.{inLine, lines-first}
 use Rattle.ledger.specs.Ledger.{Ledger}
 use Rattle.script.specs.Lines.{Asked, unknown, lineOf}
 use Rattle.script.specs.Answers.{answerLine}
@@ -98,6 +98,22 @@ no-first (b ∷ s) e =
     (λ t. let k : _≡_ {A = List (List ℕ)} ([] ∷ linesIn s) [] = rw t at e in let z : _≡_ {A = ℕ} 0 1 = cc in absurd (omega arith))
     (λ t. and-true (inLine b) (every inLine s) (rw t refl) (no-first s (no-more b (linesIn s) (rw t at e))))
 
+-- ---- all lines of an input, or those that have their LF
+
+abbrev pub cuts : Bool → List ℕ → List (List ℕ)
+cuts true s = linesOf s
+cuts false s = linesIn s
+
+pub cuts-first : (k : Bool) (l s : List ℕ) → every inLine l ≡ true → cuts k (l ++ 10 ∷ s) ≡ l ∷ cuts k s
+cuts-first true l s e = of-first l s e
+cuts-first false l s e = lines-first l s e
+
+none-in : (s : List ℕ) → every inLine s ≡ true → linesIn s ≡ []
+unfolding linesIn
+none-in [] e = refl
+none-in (b ∷ s) e =
+    rw (not-true (eqb b 10) (and-left (inLine b) (every inLine s) e), none-in s (and-right (inLine b) (every inLine s) e))
+
 -- ---- a line that is too long
 
 -- with the bytes behind its first 513 forgotten it asks what it asked
@@ -121,15 +137,16 @@ module _ (files : Files) (l : Ledger) (n : ℕ) where
   same-last : (x y : List ℕ) → lineOf x ≡ lineOf y → 0 < length x → 0 < length y → printed files l n (lastLine x) ≡ printed files l n (lastLine y)
   same-last x y e h k = rw (last-some x h, last-some y k) (same-asked x y [] e)
 
-  -- bytes without LF before a first line, or before none
-  joins : (text more m rest : List ℕ) → every inLine text ≡ true → every inLine m ≡ true → more ≡ m ++ 10 ∷ rest → linesOf (text ++ more) ≡ (text ++ m) ∷ linesOf rest
-  joins text more m rest e f p =
-      ap (λ (x : List ℕ). linesOf (text ++ x)) p ∙ ap linesOf (sym (append-assoc text m (10 ∷ rest))) ∙ of-first (text ++ m) rest (every-append inLine text m e f)
+  -- bytes without LF before a first line
+  joins : (k : Bool) (text more m rest : List ℕ) → every inLine text ≡ true → every inLine m ≡ true → more ≡ m ++ 10 ∷ rest →
+      cuts k (text ++ more) ≡ (text ++ m) ∷ cuts k rest
+  joins k text more m rest e f p =
+      ap (λ (x : List ℕ). cuts k (text ++ x)) p ∙ ap (cuts k) (sym (append-assoc text m (10 ∷ rest))) ∙ cuts-first k (text ++ m) rest (every-append inLine text m e f)
 
-  by-lines : (text more : List ℕ) (ms : List (List ℕ)) → linesIn more ≡ ms → every inLine text ≡ true →
-      printed files l n (linesOf (take 513 text ++ more)) ≡ printed files l n (linesOf (text ++ more))
-  by-lines text more [] k e =
-      let f = no-first more k in
+  -- and before none
+  joins-none : (k : Bool) (text more : List ℕ) → every inLine text ≡ true → every inLine more ≡ true →
+      printed files l n (cuts k (take 513 text ++ more)) ≡ printed files l n (cuts k (text ++ more))
+  joins-none true text more e f =
       let a : linesOf (take 513 text ++ more) ≡ lastLine (take 513 text ++ more) =
       of-last (take 513 text ++ more) (every-append inLine (take 513 text) more (every-take inLine 513 text e) f) in
       let b : linesOf (text ++ more) ≡ lastLine (text ++ more) = of-last (text ++ more) (every-append inLine text more e f) in
@@ -140,12 +157,21 @@ module _ (files : Files) (l : Ledger) (n : ℕ) where
       let i : 0 < length (take 513 text ++ more) = rw (length-append, length-take) (omega (arith, h)) in
       let j : 0 < length (text ++ more) = rw length-append (omega (arith, h)) in
       rw (a, b) (same-last (take 513 text ++ more) (text ++ more) (cut-line text more) i j))
-  by-lines text more (m ∷ ms) k e =
-      let x = first-line more m ms k in
-      let a = joins (take 513 text) more m (x .rest) (every-take inLine 513 text e) (x .unbroken) (x .parts) in
-      let b = joins text more m (x .rest) e (x .unbroken) (x .parts) in
-      rw (a, b) (same-asked (take 513 text ++ m) (text ++ m) (linesOf (x .rest)) (cut-line text m))
+  joins-none false text more e f =
+      ap (printed files l n)
+      (none-in (take 513 text ++ more) (every-append inLine (take 513 text) more (every-take inLine 513 text e) f)
+      ∙ sym (none-in (text ++ more) (every-append inLine text more e f)))
+
+  by-lines : (k : Bool) (text more : List ℕ) (ms : List (List ℕ)) → linesIn more ≡ ms → every inLine text ≡ true →
+      printed files l n (cuts k (take 513 text ++ more)) ≡ printed files l n (cuts k (text ++ more))
+  by-lines k text more [] q e = joins-none k text more e (no-first more q)
+  by-lines k text more (m ∷ ms) q e =
+      let x = first-line more m ms q in
+      let a = joins k (take 513 text) more m (x .rest) (every-take inLine 513 text e) (x .unbroken) (x .parts) in
+      let b = joins k text more m (x .rest) e (x .unbroken) (x .parts) in
+      rw (a, b) (same-asked (take 513 text ++ m) (text ++ m) (cuts k (x .rest)) (cut-line text m))
 
   -- a line that has no LF yet, of which the first 513 bytes are held
-  pub held-alike : (text more : List ℕ) → every inLine text ≡ true → printed files l n (linesOf (take 513 text ++ more)) ≡ printed files l n (linesOf (text ++ more))
-  held-alike text more e = by-lines text more (linesIn more) refl e
+  pub held-alike : (k : Bool) (text more : List ℕ) → every inLine text ≡ true →
+      printed files l n (cuts k (take 513 text ++ more)) ≡ printed files l n (cuts k (text ++ more))
+  held-alike k text more e = by-lines k text more (linesIn more) refl e

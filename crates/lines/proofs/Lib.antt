@@ -6,3 +6,4 @@ pub mod Walks
 pub mod Cutting
 pub mod Printing
 pub mod Blocks
+pub mod Whole

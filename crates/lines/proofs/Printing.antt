@@ -22,7 +22,7 @@ use Rattle.lines.specs.Walking.{Walked, hasRoom, next, nameFrom, nameAt,
 use Rattle.lines.specs.declared.answering.Wants.{Wants}
 use Rattle.lines.specs.declared.answering.Wants.the-variants.{Input, File, Room}
 use Rattle.lines.proofs.Walks.{walk-none, walk-room, walk-file, walk-on}
-use Rattle.lines.proofs.Cutting.{First, first-line, of-first}
+use Rattle.lines.proofs.Cutting.{First, first-line, of-first, cuts, cuts-first}
 
 -- ---- what is put is printed
 
@@ -89,9 +89,9 @@ module _ (files : Files) (readable : Bool) (body : List ℕ) where
   -- from a walk at a text to one at the rest of it: what was printed, and what is left
   pub record Passed (w : Walked) (text : List ℕ) (v : Walked) (rest : List ℕ) : Type 0 where
     -- what waits, and what is printed for the text and whatever comes behind it, is the same
-    pub prints : (more : List ℕ) →
-        take (w .out) (w .output) ++ printed files (w .ledger) (suc (w .number)) (linesOf (text ++ more))
-        ≡ take (v .out) (v .output) ++ printed files (v .ledger) (suc (v .number)) (linesOf (rest ++ more))
+    pub prints : (k : Bool) (more : List ℕ) →
+        take (w .out) (w .output) ++ printed files (w .ledger) (suc (w .number)) (cuts k (text ++ more))
+        ≡ take (v .out) (v .output) ++ printed files (v .ledger) (suc (v .number)) (cuts k (rest ++ more))
     pub fewer : v .number + length rest ≤ w .number + length text
     pub place : (input : List ℕ) → drop (w .at) input ≡ text → drop (v .at) input ≡ rest
     pub as-long : length (v .output) ≡ length (w .output)
@@ -99,7 +99,7 @@ module _ (files : Files) (readable : Bool) (body : List ℕ) where
     pub whole : linesOf text ≡ linesIn text → linesOf rest ≡ linesIn rest
 
   pub stays : (w : Walked) (text : List ℕ) (want : Wants) → Passed w text (stops w want) text
-  stays w text want = record { prints = λ more. refl; fewer = omega arith; place = λ input e. e; as-long = refl; whole = λ e. e }
+  stays w text want = record { prints = λ k more. refl; fewer = omega arith; place = λ input e. e; as-long = refl; whole = λ e. e }
 
   -- what is left when more input is wanted, and when a file is
   pub record Stops (v : Walked) (rest : List ℕ) : Type 0 where
@@ -136,16 +136,16 @@ module _ (files : Files) (readable : Bool) (body : List ℕ) where
       let l : length text ≡ length line + suc (length rest) = ap length (x .parts) ∙ length-append line (10 ∷ rest) in
       let m : next (w .number) ≡ n = next-is (w .number) (omega (arith, few, l)) in
       record {
-        prints = λ more.
-            let q : linesOf (text ++ more) ≡ line ∷ linesOf (rest ++ more) =
-            ap (λ (t : List ℕ). linesOf (t ++ more)) (x .parts) ∙ ap linesOf (append-assoc line (10 ∷ rest) more) ∙ of-first line (rest ++ more) (x .unbroken) in
+        prints = λ c more.
+            let q : cuts c (text ++ more) ≡ line ∷ cuts c (rest ++ more) =
+            ap (λ (t : List ℕ). cuts c (t ++ more)) (x .parts) ∙ ap (cuts c) (append-assoc line (10 ∷ rest) more) ∙ cuts-first c line (rest ++ more) (x .unbroken) in
             let both : Line → ℕ → List ℕ =
-            λ d i. (take (w .out) (w .output) ++ answerLine i (d .said)) ++ printed files (d .ledger) (suc i) (linesOf (rest ++ more)) in
-            let before : take (w .out) (w .output) ++ printed files (w .ledger) n (linesOf (text ++ more)) ≡ both (answer files (w .ledger) n line) n =
+            λ d i. (take (w .out) (w .output) ++ answerLine i (d .said)) ++ printed files (d .ledger) (suc i) (cuts c (rest ++ more)) in
+            let before : take (w .out) (w .output) ++ printed files (w .ledger) n (cuts c (text ++ more)) ≡ both (answer files (w .ledger) n line) n =
             ap (λ (ks : List (List ℕ)). take (w .out) (w .output) ++ printed files (w .ledger) n ks) q
-            ∙ sym (append-assoc (take (w .out) (w .output)) (answerLine n (answer files (w .ledger) n line .said)) (printed files (answer files (w .ledger) n line .ledger) (suc n) (linesOf (rest ++ more)))) in
+            ∙ sym (append-assoc (take (w .out) (w .output)) (answerLine n (answer files (w .ledger) n line .said)) (printed files (answer files (w .ledger) n line .ledger) (suc n) (cuts c (rest ++ more)))) in
             before ∙ sym (ap (λ (d : Line). both d n) a) ∙ sym (ap (both done) m)
-            ∙ ap (λ (t : List ℕ). t ++ printed files (done .ledger) (suc (next (w .number))) (linesOf (rest ++ more)))
+            ∙ ap (λ (t : List ℕ). t ++ printed files (done .ledger) (suc (next (w .number))) (cuts c (rest ++ more)))
             (sym (put-behind (w .output) (w .out) (next (w .number)) (done .said) room fits));
         fewer = omega (arith, m, l);
         place = λ input h.
@@ -161,7 +161,7 @@ module _ (files : Files) (readable : Bool) (body : List ℕ) where
   joined : {w : Walked} {text : List ℕ} {v : Walked} {rest : List ℕ} {u : Walked} {last : List ℕ} → Passed w text v rest → Passed v rest u last → Passed w text u last
   joined p q =
       record {
-        prints = λ more. p .prints more ∙ q .prints more;
+        prints = λ k more. p .prints k more ∙ q .prints k more;
         fewer = le-trans (q .fewer) (p .fewer);
         place = λ input e. q .place input (p .place input e);
         as-long = q .as-long ∙ p .as-long;
