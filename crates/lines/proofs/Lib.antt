@@ -7,3 +7,4 @@ pub mod Cutting
 pub mod Printing
 pub mod Blocks
 pub mod Whole
+pub mod Examples
