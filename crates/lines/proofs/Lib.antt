@@ -7,3 +7,9 @@ pub mod Cutting
 pub mod Printing
 pub mod Blocks
 pub mod Whole
+pub mod AnswersFit
+pub mod LinesFit
+pub mod NamedLines
+pub mod WalksExist
+pub mod RunsExist
+pub mod Witness
