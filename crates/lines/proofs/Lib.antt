@@ -8,3 +8,9 @@ pub mod Printing
 pub mod Blocks
 pub mod Whole
 pub mod Examples
+pub mod AnswersFit
+pub mod LinesFit
+pub mod NamedLines
+pub mod WalksExist
+pub mod RunsExist
+pub mod Witness

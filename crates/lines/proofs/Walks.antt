@@ -168,7 +168,7 @@ module _ (readable : Bool) (body : List ℕ) (given : Bool) (w : Walked) (input 
       rw (lines-here input (w .at) stop e h) (walk-on readable body given w line _ _ k f (told-on readable body w line s said n (stop + 1) out output d t a l b c))
 
 -- a part of a span
-cut-rest : (s : List ℕ) (from n to : ℕ) → drop n (cut s from to) ≡ cut s (from + n) to
+pub cut-rest : (s : List ℕ) (from n to : ℕ) → drop n (cut s from to) ≡ cut s (from + n) to
 cut-rest s from n to =
     let e : to - from - n ≡ to - (from + n) = omega arith in
     drop-take n (to - from) (drop from s) ∙ rw (e, drop-drop n from s)

@@ -79,7 +79,7 @@ record Rests (s : Standing) : Type 0 where
 -- ---- the lines go on
 
 -- the first line of what is unread is the input from there to its LF
-line-here : (input rest line : List ℕ) (ls : List (List ℕ)) (at to : ℕ) → drop at input ≡ rest → linesIn rest ≡ line ∷ ls → to ≡ at + length line → cut input at to ≡ line
+pub line-here : (input rest line : List ℕ) (ls : List (List ℕ)) (at to : ℕ) → drop at input ≡ rest → linesIn rest ≡ line ∷ ls → to ≡ at + length line → cut input at to ≡ line
 line-here input rest line ls at to d e f =
     let x = first-line rest line ls e in
     let n : to - at ≡ length line = omega (arith, f) in

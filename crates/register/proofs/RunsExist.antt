@@ -22,7 +22,7 @@ use Rattle.register.proofs.AsksExist.{engagement-exists, record-exists,
 
 -- ---- every list
 
-next : (r : Register) → Sized r → (c : Call) → Next r c
+pub next : (r : Register) → Sized r → (c : Call) → Next r c
 next r z (enrolActor code first last) = next-actor r code first last z _ refl
 next r z (enrolCategory text) = next-category r text z _ refl
 next r z (load actor category day most ps) = next-load r actor category day most ps z _ refl
@@ -52,7 +52,7 @@ pub record Lent (cols : Columns) (ls : List (List ℕ)) : Type 0 where
   pub marked : (i : ℕ) → i < 256 → length (getD (cols .marks) i []) ≡ 4
   pub loads : length ls ≡ 64
 
-fresh-sized : (cols : Columns) (ls : List (List ℕ)) → Lent cols ls → Sized (record { head = freshHead; columns = cols; loads = ls })
+pub fresh-sized : (cols : Columns) (ls : List (List ℕ)) → Lent cols ls → Sized (record { head = freshHead; columns = cols; loads = ls })
 fresh-sized cols ls l =
     record {
       actors = refl;
@@ -61,7 +61,7 @@ fresh-sized cols ls l =
       records = record { statuses = refl; ids = refl; keys = l .keys; marks = l .marks; rows = l .rows; marked = l .marked };
     }
 
-fresh-begun : Begun freshHead
+pub fresh-begun : Begun freshHead
 unfolding view actorsIn categoriesIn loadsIn recordsIn
 fresh-begun = begun freshHead (λ t. (refl, λ cols ls. refl))
 

@@ -16,10 +16,10 @@ use Rattle.register.proofs.Runs.{Engages}
 use Rattle.register.proofs.Demand2.{Demand2, demand2-of-calls}
 use Rattle.register.proofs.RunsExist.{Lent, Exists, every-list-runs}
 
-abbrev columns : Columns
+abbrev pub columns : Columns
 columns = record { keys = replicate 256 0; marks = replicate 256 (replicate 4 0); rows = replicate 256 (replicate 50 0) }
 
-abbrev loads : List (List ℕ)
+abbrev pub loads : List (List ℕ)
 loads = replicate 64 (replicate 50 0)
 
 pub lent-zeros : Lent columns loads

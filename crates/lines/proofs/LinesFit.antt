@@ -1,0 +1,136 @@
+-- Each line says something that fits into an answer's line, by a ledger whose records count from steps of two digits; and it leaves such a
+-- ledger.
+use mathlib.Core.Path.{sym, subst}
+use mathlib.Core.Bool.{Bool, true, false, cond}
+use mathlib.Core.List.{List, [], _∷_}
+use Prim.Native.Nat.{ℕ, zero, suc, _<_}
+use native.Mathlib.Omega.{arith}
+use lib.ListN.{getD}
+use Rattle.lists.proofs.Tests.{by-test}
+use Rattle.lists.proofs.All.{All, all-none, all-more, all-map}
+use Rattle.calendar.specs.Clocks.{firstCounted}
+use Rattle.calendar.specs.declared.clock.Clock.{Clock}
+use Rattle.calendar.proofs.StepCounts.{steps-small}
+use Rattle.refusals.specs.Tests.{firstMet}
+use Rattle.refusals.proofs.Tests.{decided}
+use Rattle.notification.specs.Reading.{readFile}
+use Rattle.notification.specs.declared.Notification.{Notification}
+use Rattle.ledger.specs.Ledger.{Key, Rec, Ledger, fresh, actorAt}
+use Rattle.ledger.specs.Call as Call
+use Rattle.ledger.specs.Calls.{Outcome, verdictOf, fileNote, effect, refusedBy, stepNote, step}
+use Rattle.ledger.specs.Filing.{keyOf, filingTests, pairs, changed, deletes, answers, replaces, obsoletes, ruleOne, ruleTwo, filed}
+use Rattle.ledger.specs.Asking.{engagementTests, askEngagement, noRecord, recordAt, recordTests, shown, notShown, askRecord}
+use Rattle.ledger.specs.declared.Engaged.{Engaged}
+use Rattle.ledger.specs.declared.Shown.{Shown}
+use Rattle.ledger.proofs.Passed.{FilingOk, filing-ok}
+use Rattle.ledger.proofs.Steps.{step-kept, step-file}
+use Rattle.answers.specs.Values.{noLetter, saidOf, saidEngaged, saidShown}
+use Rattle.script.specs.Lines.{Asked, advance, enrolActor, enrolCategory, load, file, engagement, recordOf, unknown}
+use Rattle.lines.specs.Scripts.{Found, lineSays}
+use Rattle.lines.proofs.AnswersFit.{Short, ok-none, ok-one, ok-filed, ok-shown, no-short, refusal-short}
+
+-- ---- the steps from which records count
+
+abbrev Soon : Rec → Type 0
+Soon r = r .from < 100
+
+-- each record of a ledger counts from a step of two digits
+abbrev pub Early : Ledger → Type 0
+Early l = All Soon (l .records)
+
+from-either : (t : Bool) (x y : Rec) → Soon x → Soon y → Soon (cond t x y)
+from-either true x y h k = h
+from-either false x y h k = k
+
+module _ (clock : Clock) (by : ℕ) (k : Key) (ps : List ℕ) where
+  one-soon : (r : Rec) → Soon r → Soon (ruleOne by k r)
+  one-soon r h = from-either (deletes by k r) _ r h h
+
+  two-soon : (r : Rec) → Soon r → Soon (ruleTwo by k ps r)
+  two-soon r h = from-either (answers by k ps r) _ r h h
+
+  changed-soon : (paired : Bool) (r : Rec) → Soon r → Soon (changed paired clock by k ps r)
+  changed-soon false r h = one-soon r h
+  changed-soon true r h =
+      let x = ruleTwo by k ps (ruleOne by k r) in
+      let s = two-soon (ruleOne by k r) (one-soon r h) in
+      from-either (replaces k x) _ x (from-either (obsoletes clock k x) _ _ s s) s
+
+counted-soon : (l : Ledger) (u : List ℕ) (n : Notification) → FilingOk l u n → firstCounted (l .clock) (keyOf l n .day) < 100
+counted-soon l u n ok = omega (arith, ok .counted, steps-small (keyOf l n .day))
+
+early-filed : (l : Ledger) (u : List ℕ) (n : Notification) → FilingOk l u n → Early l → Early (fileNote l u n .ledger)
+unfolding fileNote filed
+early-filed l u n ok e =
+    let by = actorAt (l .actors) u in
+    let paired = pairs by (keyOf l n) (n .powers) (l .records) in
+    all-more (counted-soon l u n ok) (all-map (changed paired (l .clock) by (keyOf l n) (n .powers)) (changed-soon (l .clock) by (keyOf l n) (n .powers) paired) e)
+
+early-step : (l : Ledger) (c : Call.Call) → Early l → Early (step l c .ledger)
+early-step l c e =
+    step-kept l Early
+    (record {
+      refused = e;
+      actor = λ code first last ok. e;
+      category = λ text ok. e;
+      load = λ a z day most ps ok. e;
+      filing = λ u n ok. early-filed l u n ok e;
+      clock = λ day minute ok. e;
+    }) c
+
+pub early-fresh : Early fresh
+early-fresh = all-none
+
+-- ---- what a line says
+
+abbrev SaysShort : Outcome → Type 0
+SaysShort o = Short (saidOf (o .answer))
+
+note-short : (l : Ledger) (u : List ℕ) (n : Notification) → SaysShort (stepNote l u n)
+unfolding stepNote fileNote
+note-short l u n =
+    decided SaysShort (firstMet (filingTests l u n)) (fileNote l u n) (refusedBy l)
+    (λ e. ok-filed _ _ _ (counted-soon l u n (filing-ok l u n e))) (λ r e. refusal-short r)
+
+step-short : (l : Ledger) (c : Call.Call) → SaysShort (step l c)
+unfolding step effect
+step-short l (Call.enrolActor code first last) =
+    decided SaysShort (verdictOf l (Call.enrolActor code first last)) (effect l (Call.enrolActor code first last)) (refusedBy l) (λ e. ok-one noLetter _ 0 0) (λ r e. refusal-short r)
+step-short l (Call.enrolCategory text) =
+    decided SaysShort (verdictOf l (Call.enrolCategory text)) (effect l (Call.enrolCategory text)) (refusedBy l) (λ e. ok-one noLetter _ 0 0) (λ r e. refusal-short r)
+step-short l (Call.load a z day most ps) =
+    decided SaysShort (verdictOf l (Call.load a z day most ps)) (effect l (Call.load a z day most ps)) (refusedBy l) (λ e. ok-one noLetter _ 0 0) (λ r e. refusal-short r)
+step-short l (Call.file u name body) =
+    subst SaysShort (sym (step-file l u name body))
+    (decided SaysShort (readFile name body .verdict) (stepNote l u (readFile name body .notification)) (refusedBy l) (λ e. note-short l u (readFile name body .notification)) (λ r e. refusal-short r))
+step-short l (Call.advance day minute) =
+    decided SaysShort (verdictOf l (Call.advance day minute)) (effect l (Call.advance day minute)) (refusedBy l) (λ e. ok-none noLetter 0 0 0) (λ r e. refusal-short r)
+
+engaged-short : (l : Ledger) (actor category : List ℕ) (day s : ℕ) → Short (saidEngaged (askEngagement l actor category day s))
+unfolding askEngagement
+engaged-short l actor category day s =
+    decided (λ (y : Engaged). Short (saidEngaged y)) (firstMet (engagementTests l actor category day s)) _ _ (λ e. ok-one noLetter _ 0 0) (λ r e. refusal-short r)
+
+soon-at : (rs : List Rec) → All Soon rs → (i : ℕ) → Soon (getD rs i noRecord)
+soon-at [] all-none i = omega arith
+soon-at (r ∷ rs) (all-more h a) zero = h
+soon-at (r ∷ rs) (all-more h a) (suc i) = soon-at rs a i
+
+shown-short : (l : Ledger) (asker : List ℕ) (id : ℕ) → Early l → Short (saidShown (askRecord l asker id))
+unfolding askRecord
+shown-short l asker id h =
+    decided (λ (y : Shown). Short (saidShown y)) (firstMet (recordTests l asker id)) (shown l (getD (l .records) (recordAt (l .records) id) noRecord)) notShown
+    (λ e. ok-shown _ _ _ (soon-at (l .records) h (recordAt (l .records) id))) (λ r e. refusal-short r)
+
+-- A LINE leaves such a ledger, and says something short
+pub early-line : (l : Ledger) (f : Found) (a : Asked) → Early l → Early (lineSays l f a .ledger) × Short (lineSays l f a .said)
+unfolding lineSays
+early-line l f (advance day minute) h = (early-step l _ h, step-short l _)
+early-line l f (enrolActor code first last) h = (early-step l _ h, step-short l _)
+early-line l f (enrolCategory text) h = (early-step l _ h, step-short l _)
+early-line l f (load actor category day approved powers) h = (early-step l _ h, step-short l _)
+early-line l f (file submitter name) h =
+    by-test (f .readable) (λ t. rw t (early-step l _ h, step-short l (Call.file submitter name (f .body)))) (λ t. rw t (h, no-short 11 0 (omega arith)))
+early-line l f (engagement actor category day s) h = (h, engaged-short l actor category day s)
+early-line l f (recordOf asker id) h = (h, shown-short l asker id h)
+early-line l f unknown h = (h, no-short 11 0 (omega arith))

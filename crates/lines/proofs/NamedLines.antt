@@ -1,0 +1,78 @@
+-- The name of the file that a line names is the rest of the line, from one after the comma before it on.
+use mathlib.Core.Path.{_≡_, refl, sym, _∙_, subst}
+use mathlib.Core.Bool.{Bool, true, false}
+use mathlib.Core.List.{List, []}
+use Prim.Native.Nat.{ℕ, _+_, _-_, _<_, _≤_}
+use native.Mathlib.Omega.{arith}
+use lib.Dec.{eqb, leb, ltb}
+use lib.ListN.{length, getD, drop}
+use borrow.Author.Tests.{eqb-true, eqb-false, leb-true, leb-false, ltb-true, ltb-false}
+use Rattle.lists.specs.Searches.{placeOf}
+use Rattle.lists.proofs.Tests.{by-test}
+use Rattle.script.specs.Lines.{Asked, unknown, comma, lineOf, fileIn}
+use Rattle.script.specs.Spans.{start, asked, Read}
+use Rattle.script.specs.Walking.{isComma, fieldsFrom, FieldEnd, ReadAs}
+use Rattle.script.specs.declared.reading.Line.{Line}
+use Rattle.script.specs.declared.reading.Line.the-variants.{File as FileLine, Unknown as UnknownLine}
+use Rattle.script.proofs.Parting.{field-end}
+use Rattle.script.proofs.LineKinds.{file-short, file-long, file-good}
+use Rattle.script.proofs.Letters.{read-none, line-long, line-short, line-unparted, line-with, letter-f}
+use Rattle.lines.specs.Walking.{nameAt, wanted, NamedIn}
+use Rattle.lines.proofs.Names.{other-letter, name-read, named-read}
+
+-- a line that names no file
+unnamed : (line : List ℕ) → unknown ≡ lineOf line → nameAt line ≡ 0
+unfolding nameAt
+unnamed line e = rw (← e) refl
+
+read-as : (line : List ℕ) (r : Line) (b : Asked) → lineOf line ≡ b → ReadAs line r b → Read line [] r [] (lineOf line)
+read-as line r b e p = read-none line [] r b (lineOf line) e p
+
+unread-as : (line : List ℕ) (b : Asked) → lineOf line ≡ b → ReadAs line UnknownLine b → nameAt line ≡ 0
+unfolding asked
+unread-as line b e p = unnamed line (p .says [] ∙ sym e)
+
+-- the end of the field that starts at a place
+ends-at : (line : List ℕ) (from : ℕ) → from ≤ length line → FieldEnd line from (from + placeOf isComma (drop from line))
+ends-at line from h =
+    let p = placeOf isComma (drop from line) in
+    let e : from + p - from ≡ p = omega arith in
+    field-end line from (from + p) h (omega arith) e
+
+-- a line that begins with F and a comma
+named-f : (line : List ℕ) → start ≤ length line → lineOf line ≡ fileIn (fieldsFrom line start) → 0 < nameAt line → NamedIn line (nameAt line)
+named-f line h e k =
+    let a = start + placeOf isComma (drop start line) in
+    let pa = ends-at line start h in
+    by-test (ltb a (length line))
+    (λ t.
+    let i = ltb-true a (length line) t in
+    let b = a + 1 + placeOf isComma (drop (a + 1) line) in
+    let pb = ends-at line (a + 1) (omega (arith, i)) in
+    by-test (ltb b (length line))
+    (λ u. absurd (omega (arith, k, unread-as line _ e (file-long line a pa b pb (ltb-true b (length line) u)))))
+    (λ u.
+    let w = read-as line (FileLine a) _ e (file-good line a pa b pb i (ltb-false b (length line) u)) in
+    subst (NamedIn line) (name-read w refl) (named-read w refl)))
+    (λ t. absurd (omega (arith, k, unread-as line _ e (file-short line a pa (ltb-false a (length line) t)))))
+
+named-line : (line : List ℕ) → 0 < nameAt line → NamedIn line (nameAt line)
+named-line line k =
+    by-test (eqb (getD line 0 0) 70)
+    (λ f.
+    by-test (ltb (length line) 2)
+    (λ t. absurd (omega (arith, k, unnamed line (line-short line (ltb-true (length line) 2 t)))))
+    (λ t.
+    by-test (leb (length line) 512)
+    (λ u.
+    by-test (eqb (getD line 1 0) comma)
+    (λ v.
+    named-f line (ltb-false (length line) 2 t)
+    (line-with line 70 (ltb-false (length line) 2 t) (leb-true (length line) 512 u) (eqb-true (getD line 1 0) comma v) (eqb-true (getD line 0 0) 70 f) ∙ letter-f (fieldsFrom line start)) k)
+    (λ v. absurd (omega (arith, k, unnamed line (line-unparted line (ltb-false (length line) 2 t) (eqb-false (getD line 1 0) comma v))))))
+    (λ u. absurd (omega (arith, k, unnamed line (line-long line (leb-false (length line) 512 u)))))))
+    (λ f. absurd (omega (arith, k, other-letter line (eqb-false (getD line 0 0) 70 f))))
+
+pub wanted-named : (given : Bool) (line : List ℕ) → 0 < wanted given line → NamedIn line (wanted given line) × (given ≡ false)
+wanted-named true line h = absurd (omega (arith, h))
+wanted-named false line h = (named-line line h, refl)
