@@ -4,13 +4,18 @@
 set -euo pipefail
 cd "$(dirname "${BASH_SOURCE[0]}")/.."
 root=$PWD
-for tool in cc timeout; do
+for tool in rt cc awk; do
     if ! command -v "$tool" > /dev/null; then
         echo "The test of the script program's edges needs '$tool', which is not on the PATH." >&2
         exit 1
     fi
 done
-program=$(realpath "${1:-target/bin/register_script}")
+if [[ $# -gt 0 ]]; then
+    program=$(realpath "$1")
+else
+    source tests/script_program.bash
+    program=$script_program
+fi
 work=$(mktemp -d)
 trap 'rm -rf "$work"' EXIT
 edges=$work/edges
