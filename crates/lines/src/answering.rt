@@ -82,19 +82,15 @@ pub fn answer_lines(
     let mut at = at;
     let mut out = out;
     let mut given = given;
+    let mut wants = Wants::Input;
     while at < input.len() {
         let stop = line_end(input, at);
         if stop == input.len() {
             break;
         }
         if !has_room(&*output, out) {
-            return Progress {
-                head,
-                number,
-                at,
-                out,
-                wants: Wants::Room,
-            };
+            wants = Wants::Room;
+            break;
         }
         let line = &input[at..stop];
         let next = wrapping_add_u64(number, 1);
@@ -120,13 +116,8 @@ pub fn answer_lines(
         if let Line::File(submitter) = read_file(line) {
             if !given {
                 let name = submitter as usize + 1;
-                return Progress {
-                    head,
-                    number,
-                    at,
-                    out,
-                    wants: Wants::File(at + name, stop),
-                };
+                wants = Wants::File(at + name, stop);
+                break;
             }
             let turn = filed(
                 head,
@@ -168,6 +159,6 @@ pub fn answer_lines(
         number,
         at,
         out,
-        wants: Wants::Input,
+        wants,
     }
 }
