@@ -1,5 +1,5 @@
 -- Which lines name a file, and where its name starts.
-use mathlib.Core.Path.{_≡_, refl, sym, ap, _∙_}
+use mathlib.Core.Path.{_≡_, refl, sym, ap, subst, _∙_}
 use mathlib.Core.Bool.{Bool, true, false, cond, _&&_}
 use mathlib.Core.List.{List, [], _∷_, map}
 use Prim.Native.Nat.{ℕ, suc, _+_, _-_, _<_, _≤_}
@@ -13,7 +13,7 @@ use denote.Enum.Declared.{tagOf}
 use Rattle.lists.specs.Searches.{every}
 use Rattle.lists.proofs.Tests.{by-test}
 use Rattle.script.specs.Numbers.{isNumber, valueOf, isDay, dayIn}
-use Rattle.script.specs.Lines.{Asked, advance, enrolActor, enrolCategory, load, file, engagement, recordOf, unknown, known, field, end, more, comma, byLetter, lineOf, advanceIn, enrolIn, categoryIn, loadIn, engagementIn, recordIn}
+use Rattle.script.specs.Lines.{Asked, advance, enrolActor, enrolCategory, load, file, engagement, recordOf, unknown, known, field, end, more, comma, byLetter, lineOf, lineBy, fileOf, advanceIn, enrolIn, categoryIn, loadIn, engagementIn, recordIn}
 use Rattle.script.specs.Spans.{cut, asked, Read}
 use Rattle.script.specs.declared.reading.Line.{Line}
 use Rattle.script.specs.declared.reading.Line.the-variants.{Advance, EnrolActor, EnrolCategory, Load, File, Engagement, RecordOf, Unknown}
@@ -86,15 +86,26 @@ other-letter line ne =
     (λ v. none-of line unknown (line-unparted line (ltb-false (length line) 2 t) (eqb-false (getD line 1 0) comma v)) refl))
     (λ u. none-of line unknown (line-long line (leb-false (length line) 512 u)) refl))
 
-pub no-line : (line : List ℕ) → length line ≡ 0 → 0 ≡ nameAt line
-no-line line e = none-of line unknown (line-short line (omega arith)) refl
-
 -- what is wanted of a line whose file isn't given
 pub unless-given : (given : Bool) (line : List ℕ) (n : ℕ) → given ≡ false → n ≡ nameAt line → n ≡ wanted given line
 unless-given given line n e f = rw e f
 
 pub given-none : (given : Bool) (line : List ℕ) → given ≡ true → 0 ≡ wanted given line
 given-none given line e = rw e refl
+
+pub none-wanted : (given : Bool) (line : List ℕ) → nameAt line ≡ 0 → wanted given line ≡ 0
+none-wanted true line e = refl
+none-wanted false line e = e
+
+-- ---- a line that begins with a letter is read by itself
+
+by-letter : (t : Bool) (a x : Asked) → (a ≡ unknown → ⊥) → a ≡ cond t x unknown → a ≡ x
+by-letter true a x ne e = e
+by-letter false a x ne e = absurd (ne e)
+
+pub by-itself : (b : ℕ) (line : List ℕ) {a : Asked} → (a ≡ unknown → ⊥) → a ≡ lineBy b line → a ≡ lineOf line
+unfolding lineBy
+by-itself b line {a} ne e = by-letter (eqb (getD line 0 0) b) a (lineOf line) ne e
 
 -- ---- a line that was read
 
@@ -137,3 +148,22 @@ none-read {line} (File submitter) w k = absurd (not-four k)
 none-read {line} (Engagement actor category day step) w k = none-of line _ (w .says) refl
 none-read {line} (RecordOf asker id) w k = none-of line _ (w .says) refl
 none-read {line} Unknown w k = none-of line _ (w .says) refl
+
+file-known : {submitter name : List ℕ} → file submitter name ≡ unknown → ⊥
+file-known e = let z : _≡_ {A = ℕ} 0 1 = cc in absurd (omega arith)
+
+-- a line that begins with F was read
+module _ {line : List ℕ} {r : Line} (w : (powers : List ℕ) → Read line powers r powers (fileOf line)) where
+  pub file-read : {submitter : ℕ} → r ≡ File submitter → Read line [] r [] (lineOf line)
+  unfolding asked
+  file-read {submitter} e =
+      let f : asked line (File submitter) [] ≡ fileOf line = ap (λ y. asked line y []) (sym e) ∙ w [] .says in
+      subst (λ (a : Asked). Read line [] r [] a) (sym f ∙ by-itself 70 line file-known f) (w [])
+
+  pub none-filed : (given : Bool) → OneOf (0 ∷ 1 ∷ 2 ∷ 3 ∷ 5 ∷ 6 ∷ 7 ∷ []) (tagOf line-type.the-type r) → wanted given line ≡ 0
+  unfolding lineBy
+  none-filed given k =
+      none-wanted given line
+      (by-test (eqb (getD line 0 0) 70)
+      (λ t. sym (none-read r (subst (λ (a : Asked). Read line [] r [] a) (rw t refl) (w [])) k))
+      (λ t. sym (other-letter line (eqb-false (getD line 0 0) 70 t))))

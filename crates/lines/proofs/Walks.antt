@@ -1,11 +1,11 @@
 -- A walk over lines goes on from each line that is answered, and stops where a file, more input or more room is wanted.
 use mathlib.Core.Path.{_≡_, refl, sym, ap, _∙_, subst}
-use mathlib.Core.Bool.{Bool, true, false, cond}
+use mathlib.Core.Bool.{Bool, true, false}
 use mathlib.Core.List.{List, [], _∷_}
 use Prim.Native.Nat.{ℕ, suc, _+_, _-_, _<_, _≤_}
 use native.Mathlib.Omega.{arith}
 use lib.Dec.{eqb}
-use lib.ListN.{length, getD, take, drop, length-drop, drop-of-length-le}
+use lib.ListN.{length, take, drop, length-drop, drop-of-length-le}
 use lib.Seq.{length-take-le, drop-drop}
 use borrow.Author.Tests.{ne-eqb, leb-true}
 use Rattle.lists.proofs.Tests.{by-test, true-false}
@@ -15,15 +15,16 @@ use Rattle.reader.proofs.Ends.{lines-here, lines-over}
 use Rattle.answers.specs.declared.Said.{Said}
 use Rattle.register.specs.View.{Register, held}
 use Rattle.turns.specs.Told.{Told, tells}
-use Rattle.script.specs.Lines.{Asked, advance, enrolActor, enrolCategory, load, file, engagement, recordOf, unknown, lineOf, engagementOf}
+use Rattle.script.specs.Lines.{Asked, advance, enrolActor, enrolCategory, load, file, engagement, recordOf, unknown, lineOf, engagementOf, fileOf}
 use Rattle.script.specs.Spans.{cut, asked, Read}
 use Rattle.script.specs.Answers.{answerPut, answerEnd}
 use Rattle.script.specs.declared.reading.Line.{Line}
-use Rattle.script.specs.declared.reading.Line.the-variants.{Engagement}
+use Rattle.script.specs.declared.reading.Line.the-variants.{Engagement, File as Filing}
 use Rattle.session.specs.declared.asking.Asking.{Asking}
-use Rattle.session.specs.Lines.{onlyAsks, askStep, engagedBy, lineStep}
-use Rattle.session.proofs.Spans.{asks-only, asks-engagement, engaged-within, within-form}
+use Rattle.session.specs.Lines.{onlyAsks, askStep, engagedBy, lineStep, filedBy}
+use Rattle.session.proofs.Spans.{asks-only, asks-engagement, engaged-within, filed-within, within-form, answered as told-by}
 use Rattle.lines.proofs.Fronts.{drop-take}
+use Rattle.lines.proofs.Names.{none-wanted, by-itself, file-read}
 use Rattle.lines.specs.Scripts.{Line as Done, lineSays}
 use Rattle.lines.specs.Walking.{Walked, stands, hasRoom, next, nameFrom, nameAt, wanted, stops, tellsOn, answered, walk, NamedIn, Named, NamedIf, Progressed}
 use Rattle.lines.specs.declared.answering.Progress.{Progress}
@@ -44,18 +45,8 @@ asks-none n (engagement actor category day s) e = refl
 asks-none n (recordOf asker id) e = refl
 asks-none n unknown e = refl
 
-none-wanted : (given : Bool) (line : List ℕ) → nameAt line ≡ 0 → wanted given line ≡ 0
-none-wanted true line e = refl
-none-wanted false line e = e
-
--- a line that begins with E is read by itself
-by-letter : (t : Bool) (a b : List ℕ) (d s : ℕ) (x : Asked) → engagement a b d s ≡ cond t x unknown → engagement a b d s ≡ x
-by-letter true a b d s x e = e
-by-letter false a b d s x e = let z : _≡_ {A = ℕ} 0 1 = cc in absurd (omega arith)
-
-by-itself : (line : List ℕ) {a b : List ℕ} {d s : ℕ} → engagement a b d s ≡ engagementOf line → engagement a b d s ≡ lineOf line
-unfolding engagementOf
-by-itself line {a} {b} {d} {s} e = by-letter (eqb (getD line 0 0) 69) a b d s (lineOf line) e
+engagement-known : {a b : List ℕ} {d s : ℕ} → engagement a b d s ≡ unknown → ⊥
+engagement-known e = let z : _≡_ {A = ℕ} 0 1 = cc in absurd (omega arith)
 
 -- what a line that only asks tells, and that it names no file
 pub record Answers (r : Register) (readable : Bool) (body line : List ℕ) (given : Bool) (said : Said) : Type 0 where
@@ -76,7 +67,7 @@ module _ (r : Register) (readable : Bool) (body line : List ℕ) (given : Bool) 
   unfolding asked
   engagement-answers {actor = actor} {category = category} {day = day} {s = s} w e f =
       let read : asked line (Engagement actor category day s) [] ≡ engagementOf line = ap (λ y. asked line y []) (sym e) ∙ w [] .says in
-      let whole : asked line (Engagement actor category day s) [] ≡ lineOf line = by-itself line read in
+      let whole : asked line (Engagement actor category day s) [] ≡ lineOf line = by-itself 69 line engagement-known read in
       let known : onlyAsks (lineOf line) ≡ true =
       ap onlyAsks (sym whole) ∙ sym (asks-engagement (held r) line [] actor category day s .0) in
       only-asks known
@@ -86,6 +77,14 @@ pub ask-answers : (r : Register) (readable : Bool) (body line : List ℕ) (given
     x ≡ record { asks = onlyAsks (lineOf line); said = askStep (held r) (lineOf line) } → x .asks ≡ true → Answers r readable body line given (x .said)
 ask-answers r readable body line given x e k =
     only-asks r readable body line given (x .said) (sym (ap (λ (y : Asking). y .asks) e) ∙ k) (ap (λ (y : Asking). y .said) e)
+
+-- ---- lines that file
+
+pub file-answers : (r : Register) (readable : Bool) (body line : List ℕ) {form : Line} {submitter : ℕ} {x : Told} →
+    ((powers : List ℕ) → Read line powers form powers (fileOf line)) → form ≡ Filing submitter → x ≡ filedBy r readable body line submitter →
+    x ≡ lineStep r readable body (lineOf line)
+file-answers r readable body line w e f =
+    told-by r readable body line [] (file-read w e) e (f ∙ filed-within r readable body line [] _ (within-form (w []) e))
 
 -- ---- a step of the walk
 
@@ -172,9 +171,6 @@ pub cut-rest : (s : List ℕ) (from n to : ℕ) → drop n (cut s from to) ≡ c
 cut-rest s from n to =
     let e : to - from - n ≡ to - (from + n) = omega arith in
     drop-take n (to - from) (drop from s) ∙ rw (e, drop-drop n from s)
-
-pub none : {n : ℕ} → n ≤ 0 → n ≡ 0
-none h = omega (arith, h)
 
 -- ---- how far the walk is
 

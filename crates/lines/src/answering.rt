@@ -1,19 +1,19 @@
 // Lines answered one after the other, as far as they go without a file, more input or more room.
 ghost use mathlib.Core.Path.{_≡_};
-ghost use Prim.Native.Nat.{_<_};
 ghost use lib.ListN.{drop};
 ghost use Rattle.notification.specs.Reading.{linesIn};
-ghost use Rattle.lines.specs.Walking.{stands, hasRoom, wanted, NamedIn, walk, Progressed};
+ghost use Rattle.lines.specs.Walking.{stands, hasRoom, walk, Progressed};
 use crate::ends::line_end;
 use register::Head;
 use script::reading::Line;
 use script::reading::read_engagement;
-use script::reading::read_line;
+use script::reading::read_file;
 use script::writing::LINE_ROOM;
 use script::writing::write_answer;
 use session::answering::answer;
 use session::asking::ask;
 use session::asking::engaged;
+use session::calling::filed;
 use std::num::wrapping_add_u64;
 
 // What the lines want before they go on.
@@ -46,36 +46,15 @@ fn has_room(output: &[u8], out: usize) -> bool
     out <= output.len() - LINE_ROOM
 }
 
-// Whether a line begins as one that is a call does: T, A, C, L or F.
+// Whether a line begins as one that is a call without a file does: T, A, C or L.
 fn may_call(line: &[u8]) -> bool {
     if line.len() == 0 {
         return false;
     }
     match line[0] {
-        b'T' | b'A' | b'C' | b'L' | b'F' => true,
+        b'T' | b'A' | b'C' | b'L' => true,
         _ => false,
     }
-}
-
-// Where the name of the file starts that a line names, unless the file is given; 0 where it names none.
-fn name_in(line: &[u8], given: bool) -> usize
-    ensures { λ r. ⌜ (r ≡ wanted given (now (line .entry))) × (0 < r → NamedIn (now (line .entry)) r) ⌝ }
-{
-    if given {
-        return 0;
-    }
-    if line.len() == 0 {
-        return 0;
-    }
-    if line[0] != b'F' {
-        return 0;
-    }
-    let mut powers = [0u32; 256];
-    let asked = read_line(line, &mut powers);
-    if let Line::File(submitter) = asked {
-        return submitter as usize + 1;
-    }
-    0
 }
 
 // Answers the lines of the input from a place on that have their LF, and puts their answers behind those that wait in the output. A line
@@ -103,19 +82,15 @@ pub fn answer_lines(
     let mut at = at;
     let mut out = out;
     let mut given = given;
+    let mut wants = Wants::Input;
     while at < input.len() {
         let stop = line_end(input, at);
         if stop == input.len() {
             break;
         }
         if !has_room(&*output, out) {
-            return Progress {
-                head,
-                number,
-                at,
-                out,
-                wants: Wants::Room,
-            };
+            wants = Wants::Room;
+            break;
         }
         let line = &input[at..stop];
         let next = wrapping_add_u64(number, 1);
@@ -138,6 +113,30 @@ pub fn answer_lines(
             given = false;
             continue;
         }
+        if let Line::File(submitter) = read_file(line) {
+            if !given {
+                let name = submitter as usize + 1;
+                wants = Wants::File(at + name, stop);
+                break;
+            }
+            let turn = filed(
+                head,
+                keys,
+                marks,
+                rows,
+                &*loads,
+                line,
+                submitter,
+                readable,
+                body,
+            );
+            head = turn.head;
+            out = write_answer(next, turn.said, &mut *output, out);
+            number = next;
+            at = stop + 1;
+            given = false;
+            continue;
+        }
         if !may_call(line) {
             let asking = ask(head, &*keys, &*marks, &*rows, &*loads, line);
             if asking.asks {
@@ -147,16 +146,6 @@ pub fn answer_lines(
                 given = false;
                 continue;
             }
-        }
-        let name = name_in(line, given);
-        if 0 < name {
-            return Progress {
-                head,
-                number,
-                at,
-                out,
-                wants: Wants::File(at + name, stop),
-            };
         }
         let turn = answer(head, keys, marks, rows, loads, line, readable, body);
         head = turn.head;
@@ -170,6 +159,6 @@ pub fn answer_lines(
         number,
         at,
         out,
-        wants: Wants::Input,
+        wants,
     }
 }

@@ -10,7 +10,7 @@ mod running;
 mod trying;
 
 // The most bytes that are read at once.
-const BLOCK: usize = 65536;
+const BLOCK: usize = 32768;
 
 // The most bytes of answers that wait to be written: few, so that a short run touches little memory.
 const WAITING: usize = 16384;

@@ -6,12 +6,12 @@ use Prim.Native.Nat.{ℕ, zero, suc, _+_, _<_, _≤_}
 use native.Mathlib.Omega.{arith}
 use lib.Dec.{eqb, leb}
 use lib.ListN.{length, getD, drop}
-use borrow.Author.Tests.{eqb-true, eq-eqb, ne-eqb, le-leb, lt-leb}
-use Rattle.lists.proofs.Tests.{by-test}
+use borrow.Author.Tests.{eqb-true, eqb-false, eq-eqb, ne-eqb, le-leb, lt-leb}
+use Rattle.lists.proofs.Tests.{true-false}
 use Rattle.notification.specs.Reading.{onto}
-use Rattle.script.specs.Lines.{Asked, unknown, known, field, lineMost, comma, fields, letterOf, byLetter, lineOf, engagementOf, advanceIn, enrolIn, categoryIn, loadIn, fileIn, engagementIn, recordIn}
+use Rattle.script.specs.Lines.{Asked, unknown, known, field, lineMost, comma, fields, letterOf, byLetter, lineOf, lineBy, advanceIn, enrolIn, categoryIn, loadIn, fileIn, engagementIn, recordIn}
 use Rattle.script.specs.Spans.{start, Read}
-use Rattle.script.specs.Walking.{fieldsFrom, ReadAs}
+use Rattle.script.specs.Walking.{fieldsFrom, Begins, ReadAs}
 use Rattle.script.specs.declared.reading.Line.{Line}
 use Rattle.script.proofs.Parting.{from-inside, fields-parted}
 
@@ -118,17 +118,28 @@ pub letter-r : (fs : List (List ℕ)) → byLetter 82 fs ≡ recordIn fs
 unfolding byLetter
 letter-r fs = refl
 
--- ---- a line that begins with E, or counts as unknown
+-- ---- a line that begins with a letter, or counts as unknown
 
-module _ (line : List ℕ) where
-  pub engagement-none : unknown ≡ lineOf line → unknown ≡ engagementOf line
-  unfolding engagementOf
-  engagement-none e = sym (rw (← e) (unknown-either (eqb (getD line 0 0) 69)))
+module _ (line : List ℕ) (b : ℕ) where
+  pub by-none : unknown ≡ lineOf line → unknown ≡ lineBy b line
+  unfolding lineBy
+  by-none e = sym (rw (← e) (unknown-either (eqb (getD line 0 0) b)))
 
-  pub engagement-other : (getD line 0 0 ≡ 69 → ⊥) → unknown ≡ engagementOf line
-  unfolding engagementOf
-  engagement-other ne = rw (ne-eqb (getD line 0 0) 69 ne)
+  pub by-other : (getD line 0 0 ≡ b → ⊥) → unknown ≡ lineBy b line
+  unfolding lineBy
+  by-other ne = rw (ne-eqb (getD line 0 0) b ne)
 
-  pub engagement-is : getD line 0 0 ≡ 69 → engagementOf line ≡ lineOf line
-  unfolding engagementOf
-  engagement-is e = rw (eq-eqb (getD line 0 0) 69 e)
+  pub by-fields : Begins line b → lineBy b line ≡ byLetter b (fieldsFrom line start)
+  unfolding lineBy
+  by-fields g = rw (eq-eqb (getD line 0 0) b (g .letter)) (line-with line b (g .reaches) (g .ends) (g .parted) (g .letter))
+
+  -- what a test tells that only a line that begins with the letter passes
+  abbrev Tells : Bool → Type 0
+  Tells t = (t ≡ true → Begins line b) × (t ≡ false → unknown ≡ lineBy b line)
+
+  pub tells-none : unknown ≡ lineOf line → Tells false
+  tells-none e = (λ t. true-false true refl (sym t), λ t. by-none e)
+
+  pub tells-letter : start ≤ length line → length line ≤ lineMost → getD line 1 0 ≡ comma → Tells (eqb (getD line 0 0) b)
+  tells-letter h l e =
+      (λ t. record { parted = e; letter = eqb-true (getD line 0 0) b t; reaches = h; ends = l }, λ t. by-other (eqb-false (getD line 0 0) b t))

@@ -103,9 +103,17 @@ byLetter b fs =
 unfoldable pub lineOf : List ℕ → Asked
 lineOf line = known (leb (length line) lineMost) (field (λ letter. byLetter (letterOf letter)) (fields line))
 
--- a line that begins with E; any other counts as unknown
-unfoldable pub engagementOf : List ℕ → Asked
-engagementOf line = cond (eqb (getD line 0 0) 69) (lineOf line) unknown
+-- a line that begins with a letter; any other counts as unknown
+unfoldable pub lineBy : ℕ → List ℕ → Asked
+lineBy b line = cond (eqb (getD line 0 0) b) (lineOf line) unknown
+
+-- a line that begins with E
+abbrev pub engagementOf : List ℕ → Asked
+engagementOf line = lineBy 69 line
+
+-- a line that begins with F
+abbrev pub fileOf : List ℕ → Asked
+fileOf line = lineBy 70 line
 
 -- the powers of a load that a line asks for
 abbrev pub powersOf : Asked → List ℕ

@@ -4,11 +4,11 @@ use mathlib.Core.Bool.{Bool, cond}
 use mathlib.Core.List.{List, [], _∷_}
 use Prim.Native.Nat.{ℕ, _+_, _≤_}
 use lib.Dec.{leb, eqb}
-use lib.ListN.{length, drop}
+use lib.ListN.{length, drop, getD}
 use Rattle.lists.specs.Searches.{every}
 use Rattle.script.specs.Numbers.{numberEnd, isNumber, valueOf}
-use Rattle.script.specs.Lines.{Asked, comma, powersOf, fields}
-use Rattle.script.specs.Spans.{cut, asked, Within}
+use Rattle.script.specs.Lines.{Asked, lineMost, comma, powersOf, fields}
+use Rattle.script.specs.Spans.{cut, start, asked, Within}
 use Rattle.script.specs.declared.reading.Line.{Line}
 
 abbrev pub isComma : ℕ → Bool
@@ -17,6 +17,13 @@ isComma b = eqb b comma
 -- the fields from a place on; none past the end of the line
 unfoldable pub fieldsFrom : List ℕ → ℕ → List (List ℕ)
 fieldsFrom line at = cond (leb at (length line)) (fields (drop at line)) []
+
+-- a line begins with a letter and a comma, and isn't too long
+pub record Begins (line : List ℕ) (b : ℕ) : Type 0 where
+  pub parted : getD line 1 0 ≡ comma
+  pub letter : getD line 0 0 ≡ b
+  pub reaches : start ≤ length line
+  pub ends : length line ≤ lineMost
 
 -- where the field that starts at a place ends: it is the line's span up to there, and the other fields start after it
 pub record FieldEnd (line : List ℕ) (from end : ℕ) : Type 0 where

@@ -1,11 +1,12 @@
 // What a line of the script asks.
 ghost use mathlib.Core.Path.{_≡_};
+ghost use mathlib.Core.Bool.{true, false};
 ghost use mathlib.Core.List.{List};
 ghost use Prim.Native.Nat.{ℕ, _≤_};
 ghost use lib.ListN.{length};
-ghost use Rattle.script.specs.Lines.{lineMost, advanceIn, enrolIn, categoryIn, loadIn, fileIn, engagementIn, recordIn, lineOf, engagementOf};
+ghost use Rattle.script.specs.Lines.{lineMost, advanceIn, enrolIn, categoryIn, loadIn, fileIn, engagementIn, recordIn, unknown, lineOf, lineBy, engagementOf, fileOf};
 ghost use Rattle.script.specs.Spans.{start, Read};
-ghost use Rattle.script.specs.Walking.{fieldsFrom, ReadAs};
+ghost use Rattle.script.specs.Walking.{fieldsFrom, Begins, ReadAs};
 use crate::fields::NUMBER_END;
 use crate::fields::date_end;
 use crate::fields::day_in;
@@ -211,24 +212,41 @@ fn load(line: &[u8], powers: &mut [u32; 256]) -> Line
     }
 }
 
+// Whether a line begins with a letter and a comma. One that is too long doesn't.
+fn begins(line: &[u8], letter: u8) -> bool
+    ensures { λ r. ⌜ (r ≡ true → Begins (now (line .entry)) letter) × (r ≡ false → unknown ≡ lineBy letter (now (line .entry))) ⌝ }
+{
+    let n = line.len();
+    if 512 < n {
+        return false;
+    }
+    if n < 2 {
+        return false;
+    }
+    if line[1] != b',' {
+        return false;
+    }
+    line[0] == letter
+}
+
 // What a line that begins with E asks. Any other line is unknown here: `read_line` says what it asks.
 pub fn read_engagement(line: &[u8]) -> Line
     ensures { λ r. ⌜ ((powers : List ℕ) → Read (now (line .entry)) powers r powers (engagementOf (now (line .entry)))) ⌝ }
 {
-    let n = line.len();
-    if 512 < n {
-        return Line::Unknown;
-    }
-    if n < 2 {
-        return Line::Unknown;
-    }
-    if line[1] != b',' {
-        return Line::Unknown;
-    }
-    if line[0] != b'E' {
+    if !begins(line, b'E') {
         return Line::Unknown;
     }
     engagement(line)
+}
+
+// What a line that begins with F asks. Any other line is unknown here.
+pub fn read_file(line: &[u8]) -> Line
+    ensures { λ r. ⌜ ((powers : List ℕ) → Read (now (line .entry)) powers r powers (fileOf (now (line .entry)))) ⌝ }
+{
+    if !begins(line, b'F') {
+        return Line::Unknown;
+    }
+    file(line)
 }
 
 // What a line asks, with the powers of a load put into lent places, the rest of them untouched.

@@ -22,16 +22,11 @@ use Rattle.script.specs.Spans.{cut, asked, Within, Read}
 use Rattle.script.specs.declared.reading.Line.{Line}
 use Rattle.script.specs.declared.reading.Line.the-variants.{Advance, EnrolActor, EnrolCategory, Load, File, Engagement, RecordOf, Unknown}
 use Rattle.session.specs.declared.asking.Asking.{Asking}
-use Rattle.session.specs.Lines.{noCall, onlyAsks, askStep, engagedBy, lineStep}
+use Rattle.session.specs.Lines.{noCall, onlyAsks, askStep, engagedBy, lineStep, filedBy}
 
 -- the first powers are so many
 pub counted : (n : ℕ) (powers : List ℕ) → length powers ≡ 256 → n ≤ 256 → n ≡ length (take n powers)
 counted n powers e h = sym (length-take-le n powers (rw e h))
-
--- a file that can be read
-pub readable-line : (r : Register) (readable : Bool) (body : List ℕ) (a : Asked) → not readable ≡ false →
-    lineStep r true body a ≡ lineStep r readable body a
-readable-line r readable body a e = ap (λ b. lineStep r b body a) (sym (not-false readable e))
 
 module _ (r : Register) (readable : Bool) (body line powers : List ℕ) where
   pub unknown-line : tells r (saidRefused noCall) ≡ lineStep r readable body (asked line Unknown powers)
@@ -58,17 +53,28 @@ module _ (r : Register) (readable : Bool) (body line powers : List ℕ) where
   unfolding asked lineStep
   load-line actor category day approved count = refl
 
-  pub file-line : (submitter : ℕ) →
-      told (does r (Call.file (cut line 2 submitter) (take (length line - (submitter + 1)) (drop (submitter + 1) line)) body))
-      ≡ lineStep r true body (asked line (File submitter) powers)
-  unfolding asked lineStep
-  file-line submitter = ap (λ name. told (does r (Call.file (cut line 2 submitter) name body))) (rest-all (submitter + 1) line)
+  -- a file that can be read, by spans that are cut off at the line's end
+  pub filed-cut : (submitter first second end : ℕ) → not readable ≡ false → end ≡ min submitter (length line) → first ≡ min 2 end →
+      second ≡ min (end + 1) (length line) →
+      told (does r (Call.file (take (end - first) (drop first line)) (take (length line - second) (drop second line)) body))
+      ≡ filedBy r readable body line submitter
+  unfolding filedBy lineStep
+  filed-cut submitter first second end t e f g = rw (not-false readable t, rest-all second line, g, f, e) refl
 
   -- a file that can't be read
-  pub unreadable-line : (submitter : ℕ) → not readable ≡ true →
-      lineStep r readable body (asked line Unknown powers) ≡ lineStep r readable body (asked line (File submitter) powers)
-  unfolding asked lineStep
-  unreadable-line submitter e = rw (not-true readable e) refl
+  pub filed-none : (submitter : ℕ) → not readable ≡ true → lineStep r readable body (asked line Unknown powers) ≡ filedBy r readable body line submitter
+  unfolding asked filedBy lineStep
+  filed-none submitter e = rw (not-true readable e) refl
+
+  -- spans that lie in the line are not cut off
+  pub filed-within : (submitter : ℕ) → Within (length line) (File submitter) →
+      filedBy r readable body line submitter ≡ lineStep r readable body (asked line (File submitter) powers)
+  unfolding asked filedBy
+  filed-within submitter w =
+      let e : min submitter (length line) ≡ submitter = omega (arith, w .1) in
+      let f : min 2 submitter ≡ 2 = omega (arith, w .0) in
+      let g : min (submitter + 1) (length line) ≡ submitter + 1 = omega (arith, w .1) in
+      rw (e, f, g) refl
 
   -- what is answered to a line by what was read of it is what is answered to the line
   pub answered : {read form : Line} {before : List ℕ} {a : Asked} {x : Told} → Read line before read powers a → read ≡ form →

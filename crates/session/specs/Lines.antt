@@ -2,7 +2,7 @@
 use mathlib.Core.Bool.{Bool, true, false, cond}
 use mathlib.Core.List.{List}
 use Prim.Native.Nat.{ℕ, _+_, min}
-use lib.ListN.{length}
+use lib.ListN.{length, drop}
 use Rattle.ledger.specs.Ledger.{Ledger}
 use Rattle.ledger.specs.Call as Call
 use Rattle.ledger.specs.Asking.{askEngagement, askRecord}
@@ -57,3 +57,9 @@ lineStep r readable body (file submitter name) = cond readable (told (does r (Ca
 lineStep r readable body (engagement actor category day s) = tells r (saidEngaged (askEngagement (held r) actor category day s))
 lineStep r readable body (recordOf asker id) = tells r (saidShown (askRecord (held r) asker id))
 lineStep r readable body unknown = tells r (saidRefused noCall)
+
+-- what a line does that files, by spans of it, of which only what lies in the line, one span after the other, counts
+unfoldable pub filedBy : Register → Bool → List ℕ → List ℕ → ℕ → Told
+filedBy r readable body line submitter =
+    let end = min submitter (length line) in
+    lineStep r readable body (file (cut line (min 2 end) end) (drop (min (end + 1) (length line)) line))

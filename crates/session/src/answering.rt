@@ -40,12 +40,17 @@ pub fn answer(
             approved,
             count,
         ),
-        Line::File(submitter) => {
-            if !readable {
-                return calling::no_call(head);
-            }
-            calling::file(head, keys, marks, rows, &*loads, line, submitter, body)
-        }
+        Line::File(submitter) => calling::filed(
+            head,
+            keys,
+            marks,
+            rows,
+            &*loads,
+            line,
+            submitter,
+            readable,
+            body,
+        ),
         Line::Engagement(actor, category, day, step) => {
             let said = asking::engagement(
                 head,

@@ -2,13 +2,14 @@
 ghost use mathlib.Core.Path.{_≡_};
 ghost use mathlib.Core.Bool.{Bool};
 ghost use mathlib.Core.List.{List};
-ghost use Prim.Native.Nat.{ℕ, min};
+ghost use Prim.Native.Nat.{ℕ};
 ghost use lib.ListN.{length};
 ghost use Rattle.answers.specs.Values.{saidRefused};
 ghost use Rattle.register.specs.View.{view};
 ghost use Rattle.script.specs.Spans.{asked, Within};
 ghost use Rattle.script.specs.Lines.{lineOf};
 ghost use Rattle.session.specs.Lines.{onlyAsks, askStep, engagedBy};
+use crate::places::within;
 use answers::Said;
 use answers::of_engaged;
 use answers::of_shown;
@@ -24,13 +25,6 @@ const NO_CALL: u32 = 11;
 pub struct Asking {
     pub asks: bool,
     pub said: Said,
-}
-
-// A place, or the end of what it should lie in.
-fn within(place: usize, end: usize) -> usize
-    ensures { λ r. ⌜ r ≡ min place end ⌝ }
-{
-    if place < end { place } else { end }
 }
 
 // What a line says that asks for an engagement, by what was read of it. Of spans that don't lie in the line one after the other, what

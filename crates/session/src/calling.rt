@@ -7,7 +7,8 @@ ghost use lib.ListN.{length};
 ghost use Rattle.tables.specs.Tables.{Columns};
 ghost use Rattle.turns.specs.Told.{tells};
 ghost use Rattle.script.specs.Spans.{asked, Within};
-ghost use Rattle.session.specs.Lines.{lineStep};
+ghost use Rattle.session.specs.Lines.{lineStep, filedBy};
+use crate::places::within;
 use answers::refused;
 use register::Head;
 use script::reading::Line;
@@ -87,8 +88,9 @@ pub(crate) fn load(
     turned(reply)
 }
 
-// `F,submitter,name`, with the body of the file of that name
-pub(crate) fn file(
+// `F,submitter,name`, by what was read of it. `readable` says whether the file of that name can be read, and `body` has its bytes. Of
+// spans that don't lie in the line one after the other, what doesn't is left out.
+pub fn filed(
     head: Head,
     keys: &mut [u32; 256],
     marks: &mut [[u8; 4]; 256],
@@ -96,14 +98,17 @@ pub(crate) fn file(
     loads: &[[u16; 50]; 64],
     line: &[u8],
     submitter: u32,
+    readable: bool,
     body: &[u8],
 ) -> Turn
-    requires { ⌜ Within (length (now line)) (Line.File submitter) ⌝ }
-    ensures { λ r. ⌜ ((powers : List ℕ) → tells (record { head = r .head; columns = record { keys = now (keys .exit); marks = now (marks .exit); rows = now (rows .exit) }; loads = now (loads .entry) }) (r .said) ≡ lineStep (record { head = head; columns = record { keys = now (keys .entry); marks = now (marks .entry); rows = now (rows .entry) }; loads = now (loads .entry) }) Bool.true (now (body .entry)) (asked (now (line .entry)) (Line.File submitter) powers)) ⌝ }
+    ensures { λ r. ⌜ tells (record { head = r .head; columns = record { keys = now (keys .exit); marks = now (marks .exit); rows = now (rows .exit) }; loads = now (loads .entry) }) (r .said) ≡ filedBy (record { head = head; columns = record { keys = now (keys .entry); marks = now (marks .entry); rows = now (rows .entry) }; loads = now (loads .entry) }) readable (now (body .entry)) (now (line .entry)) submitter ⌝ }
 {
-    let first: usize = 2;
-    let end = submitter as usize;
-    let second = end + 1;
+    if !readable {
+        return no_call(head);
+    }
+    let end = within(submitter as usize, line.len());
+    let first = within(2, end);
+    let second = within(end + 1, line.len());
     let reply = head.file(
         keys,
         marks,

@@ -1,4 +1,5 @@
 // A line of the script, answered by a register (document 01, "The script program").
 pub mod answering;
 pub mod asking;
-mod calling;
+pub mod calling;
+mod places;

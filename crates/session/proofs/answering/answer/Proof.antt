@@ -1,5 +1,5 @@
 use mathlib.Core.Path.{_≡_, sym, ap, _∙_}
-use Rattle.session.proofs.Spans.{answered, within-form, places-kept, unreadable-line, readable-line, engagement-line, record-line}
+use Rattle.session.proofs.Spans.{answered, within-form, places-kept, filed-within, engagement-line, record-line}
 use Rattle.turns.specs.Told.{tells}
 use borrow.Author.Needs.{needs}
 use Rattle.session.proofs.answering.answer.Statement.{statement}
@@ -12,7 +12,7 @@ use Rattle.session.proofs.asking.record.Reads as record-reads
 use Rattle.session.proofs.calling.advance.Reads as advance-reads
 use Rattle.session.proofs.calling.enrol_actor.Reads as enrol-actor-reads
 use Rattle.session.proofs.calling.enrol_category.Reads as enrol-category-reads
-use Rattle.session.proofs.calling.file.Reads as file-reads
+use Rattle.session.proofs.calling.filed.Reads as filed-reads
 use Rattle.session.proofs.calling.load.Reads as load-reads
 use Rattle.session.proofs.calling.no_call.Reads as no-call-reads
 
@@ -49,14 +49,8 @@ load-requires c κs = (within-form (c .before .before .before .before .before .r
 enum-known-asked-4 : tie.Need-enum-known-asked-4
 enum-known-asked-4 c = search needs
 
-no-call-requires : tie.Need-no-call-requires
-no-call-requires c κs = search needs
-
-returns : tie.Need-returns
-returns c = answered _ _ _ _ _ (c .before .before .before .before .before .read-line .ensures) (c .before .before .before .asked4 .given .1) (c .no-call .ensures _ _ _ _ _ _ ∙ unreadable-line _ _ _ _ _ _ (c .before .if1 .taken))
-
-file-requires : tie.Need-file-requires
-file-requires c κs = within-form (c .before .before .before .before .before .before .before .before .read-line .ensures) (c .before .before .before .before .before .before .asked4 .given .1)
+filed-requires : tie.Need-filed-requires
+filed-requires c κs = search needs
 
 enum-known-asked-5 : tie.Need-enum-known-asked-5
 enum-known-asked-5 c = search needs
@@ -73,32 +67,32 @@ record-requires c κs = within-form (c .before .before .before .before .before .
 enum-told-2 : tie.Need-enum-told-2
 enum-told-2 c = search needs
 
-no-call-requires-2 : tie.Need-no-call-requires-2
-no-call-requires-2 c κs = search needs
+no-call-requires : tie.Need-no-call-requires
+no-call-requires c κs = search needs
+
+returns : tie.Need-returns
+returns c = answered _ _ _ _ _ (c .before .before .before .before .read-line .ensures) (c .before .before .asked .given .1) (c .advance .ensures _ _ _ _ _ _)
 
 returns-2 : tie.Need-returns-2
-returns-2 c = answered _ _ _ _ _ (c .before .before .before .before .read-line .ensures) (c .before .before .asked .given .1) (c .advance .ensures _ _ _ _ _ _)
+returns-2 c = answered _ _ _ _ _ (c .before .before .before .before .read-line .ensures) (c .before .before .asked2 .given .1) (c .enrol-actor .ensures _ _ _ _ _)
 
 returns-3 : tie.Need-returns-3
-returns-3 c = answered _ _ _ _ _ (c .before .before .before .before .read-line .ensures) (c .before .before .asked2 .given .1) (c .enrol-actor .ensures _ _ _ _ _)
+returns-3 c = answered _ _ _ _ _ (c .before .before .before .read-line .ensures) (c .before .enum-told .given .1) (c .enrol-category .ensures _ _ _ _ _)
 
 returns-4 : tie.Need-returns-4
-returns-4 c = answered _ _ _ _ _ (c .before .before .before .read-line .ensures) (c .before .enum-told .given .1) (c .enrol-category .ensures _ _ _ _ _)
+returns-4 c = answered _ _ _ _ _ (c .before .before .before .before .before .before .read-line .ensures) (c .before .before .before .before .asked3 .given .1) (c .load .ensures _ _ _)
 
 returns-5 : tie.Need-returns-5
-returns-5 c = answered _ _ _ _ _ (c .before .before .before .before .before .before .read-line .ensures) (c .before .before .before .before .asked3 .given .1) (c .load .ensures _ _ _)
+returns-5 c = answered _ _ _ _ _ (c .before .before .before .before .before .before .before .before .read-line .ensures) (c .before .before .before .before .before .before .asked4 .given .1) (c .filed .ensures ∙ filed-within _ _ _ _ _ _ (within-form (c .before .before .before .before .before .before .before .before .read-line .ensures) (c .before .before .before .before .before .before .asked4 .given .1)))
 
 returns-6 : tie.Need-returns-6
-returns-6 c = answered _ _ _ _ _ (c .before .before .before .before .before .before .before .before .before .read-line .ensures) (c .before .before .before .before .before .before .before .asked4 .given .1) (c .file .ensures _ ∙ readable-line _ _ _ _ (c .before .before .before .before .before .if1 .left))
+returns-6 c = answered _ _ _ _ _ (c .before .before .before .before .before .before .before .before .read-line .ensures) (c .before .before .before .before .before .before .asked5 .given .1) (ap (tells _) (c .engagement .ensures _) ∙ engagement-line _ _ _ _ _ _ _ _ _)
 
 returns-7 : tie.Need-returns-7
-returns-7 c = answered _ _ _ _ _ (c .before .before .before .before .before .before .before .before .read-line .ensures) (c .before .before .before .before .before .before .asked5 .given .1) (ap (tells _) (c .engagement .ensures _) ∙ engagement-line _ _ _ _ _ _ _ _ _)
+returns-7 c = answered _ _ _ _ _ (c .before .before .before .before .before .before .before .read-line .ensures) (c .before .before .before .before .before .asked6 .given .1) (ap (tells _) (c .«record» .ensures _ _) ∙ record-line _ _ _ _ _ _ _)
 
 returns-8 : tie.Need-returns-8
-returns-8 c = answered _ _ _ _ _ (c .before .before .before .before .before .before .before .read-line .ensures) (c .before .before .before .before .before .asked6 .given .1) (ap (tells _) (c .«record» .ensures _ _) ∙ record-line _ _ _ _ _ _ _)
-
-returns-9 : tie.Need-returns-9
-returns-9 c = answered _ _ _ _ _ (c .before .before .before .read-line .ensures) (c .before .enum-told2 .given .1) (c .no-call2 .ensures _ _ _ _ _ _)
+returns-8 c = answered _ _ _ _ _ (c .before .before .before .read-line .ensures) (c .before .enum-told2 .given .1) (c .no-call .ensures _ _ _ _ _ _)
 
 pub answer-spec : {M : Type 1} → statement M
 answer-spec =
@@ -115,20 +109,18 @@ answer-spec =
     slice-aggregate-load
     load-requires
     enum-known-asked-4
-    no-call-requires
-    returns
-    file-requires
+    filed-requires
     enum-known-asked-5
     engagement-requires
     enum-known-asked-6
     record-requires
     enum-told-2
-    no-call-requires-2
+    no-call-requires
+    returns
     returns-2
     returns-3
     returns-4
     returns-5
     returns-6
     returns-7
-    returns-8
-    returns-9)
+    returns-8)
