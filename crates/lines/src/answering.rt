@@ -75,7 +75,14 @@ pub fn answer_lines(
     readable: bool,
     body: &[u8],
 ) -> Progress
-    ensures { λ r. ⌜ (stands (record { head = r .head; columns = record { keys = now (keys .exit); marks = now (marks .exit); rows = now (rows .exit) }; loads = now (loads .exit) }) (r .number) (r .at) (now (output .exit)) (r .out) (r .wants) ≡ walk readable (now (body .entry)) given (stands (record { head = head; columns = record { keys = now (keys .entry); marks = now (marks .entry); rows = now (rows .entry) }; loads = now (loads .entry) }) number at (now (output .entry)) out Wants.Input) (linesIn (drop at (now (input .entry))))) × Progressed (now (input .entry)) at (now (output .entry)) out r ⌝ }
+    ensures { λ r. ⌜
+        (stands (record { head = r .head; columns = record { keys = now (keys .exit); marks = now (marks .exit); rows = now (rows .exit) }; loads = now (loads .exit) })
+        (r .number) (r .at) (now (output .exit)) (r .out) (r .wants)
+        ≡ walk readable (now (body .entry)) given
+        (stands (record { head = head; columns = record { keys = now (keys .entry); marks = now (marks .entry); rows = now (rows .entry) }; loads = now (loads .entry) })
+        number at (now (output .entry)) out Wants.Input)
+        (linesIn (drop at (now (input .entry)))))
+        × Progressed (now (input .entry)) at (now (output .entry)) out r ⌝ }
 {
     let mut head = head;
     let mut number = number;
