@@ -6,23 +6,22 @@ use borrow.Fn.World
 use denote.Triple.Clauses
 use contract.Lifetimes
 use denote.Ref.{now}
-use mathlib.Core.Path.{_≡_, refl, sym, ap, _∙_, subst}
+use mathlib.Core.Path.{_≡_, refl}
 use mathlib.Core.Bool.{Bool, true, false}
-use mathlib.Core.List.{List, [], _∷_, _++_, append-assoc, append-nil}
+use mathlib.Core.List.{List, [], _∷_, _++_}
 use Prim.Native.Nat.{ℕ, suc, _+_, _<_, _≤_}
 use lib.ListN.{length, take, drop}
 use lib.Seq.{sets}
 use Rattle.notification.specs.Reading.{linesIn}
-use Rattle.ledger.specs.Ledger.{Ledger, fresh}
 use Rattle.tables.specs.Tables.{Columns}
 use Rattle.register.specs.View.{Register, held}
 use Rattle.register.specs.declared.Head.{Head}
-use Rattle.register.proofs.Runs.{Begun, begun-is}
+use Rattle.register.proofs.Runs.{Begun}
 use Rattle.script.specs.Spans.{cut}
-use Rattle.lines.specs.Scripts.{linesOf, joined, Files, printed}
+use Rattle.lines.specs.Scripts.{Files}
 use Rattle.lines.specs.Walking.{heldOf, ended, endedAt, Walked, stands, walk, NamedIf}
 use Rattle.lines.specs.declared.answering.Wants.{Wants}
-use Rattle.lines.specs.declared.answering.Wants.the-variants.{Input, File, Room}
+use Rattle.lines.specs.declared.answering.Wants.the-variants.{Input, File}
 use Rattle.lines.specs.declared.answering.Progress.{Progress}
 use Rattle.lines.proofs.answering.answer_lines as answer-fn
 use Rattle.lines.proofs.answering.answer_lines.Kinds as answer-kinds

@@ -1,8 +1,8 @@
 -- The lines of an input, by its first LF; and that of a line that is too long the first 513 bytes say as much as all of it.
-use mathlib.Core.Path.{_≡_, refl, sym, ap, ap₂, _∙_}
-use mathlib.Core.Bool.{Bool, true, false, not}
+use mathlib.Core.Path.{_≡_, refl, sym, ap, _∙_}
+use mathlib.Core.Bool.{Bool, true, false}
 use mathlib.Core.List.{List, [], _∷_, _++_, append-assoc, append-nil}
-use Prim.Native.Nat.{ℕ, suc, _+_, _<_, _≤_}
+use Prim.Native.Nat.{ℕ, suc, _+_, _<_}
 use native.Mathlib.Omega.{arith}
 use lib.Dec.{eqb, leb}
 use lib.ListN.{length, take, length-append, length-take}
@@ -14,10 +14,10 @@ use Rattle.lists.proofs.Searches.{every-append, every-take}
 use Rattle.notification.specs.Reading.{onto, linesIn}
 use Rattle.notification.proofs.Lines.{inLine, lines-first}
 use Rattle.ledger.specs.Ledger.{Ledger}
-use Rattle.script.specs.Lines.{Asked, unknown, lineOf}
+use Rattle.script.specs.Lines.{Asked, lineOf}
 use Rattle.script.specs.Answers.{answerLine}
 use Rattle.script.proofs.Letters.{line-long}
-use Rattle.lines.specs.Scripts.{lastLine, linesAfter, linesOf, Files, Line, lineSays, nameOf, answer, printed}
+use Rattle.lines.specs.Scripts.{lastLine, linesAfter, linesOf, Files, lineSays, nameOf, printed}
 
 -- ---- from an input to its lines
 

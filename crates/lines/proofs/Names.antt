@@ -2,7 +2,7 @@
 use mathlib.Core.Path.{_≡_, refl, sym, ap, subst, _∙_}
 use mathlib.Core.Bool.{Bool, true, false, cond, _&&_}
 use mathlib.Core.List.{List, [], _∷_, map}
-use Prim.Native.Nat.{ℕ, suc, _+_, _-_, _<_, _≤_}
+use Prim.Native.Nat.{ℕ, suc, _+_, _-_}
 use native.Mathlib.Omega.{arith}
 use lib.Dec.{eqb, leb, ltb}
 use lib.ListN.{length, getD, drop, length-drop}
@@ -13,7 +13,7 @@ use denote.Enum.Declared.{tagOf}
 use Rattle.lists.specs.Searches.{every}
 use Rattle.lists.proofs.Tests.{by-test}
 use Rattle.script.specs.Numbers.{isNumber, valueOf, isDay, dayIn}
-use Rattle.script.specs.Lines.{Asked, advance, enrolActor, enrolCategory, load, file, engagement, recordOf, unknown, known, field, end, more, comma, byLetter, lineOf, lineBy, fileOf, advanceIn, enrolIn, categoryIn, loadIn, engagementIn, recordIn}
+use Rattle.script.specs.Lines.{Asked, advance, enrolActor, load, file, engagement, recordOf, unknown, known, field, end, more, comma, byLetter, lineOf, lineBy, fileOf, advanceIn, enrolIn, categoryIn, loadIn, engagementIn, recordIn}
 use Rattle.script.specs.Spans.{cut, asked, Read}
 use Rattle.script.specs.declared.reading.Line.{Line}
 use Rattle.script.specs.declared.reading.Line.the-variants.{Advance, EnrolActor, EnrolCategory, Load, File, Engagement, RecordOf, Unknown}

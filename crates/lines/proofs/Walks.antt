@@ -2,13 +2,13 @@
 use mathlib.Core.Path.{_≡_, refl, sym, ap, _∙_, subst}
 use mathlib.Core.Bool.{Bool, true, false}
 use mathlib.Core.List.{List, [], _∷_}
-use Prim.Native.Nat.{ℕ, suc, _+_, _-_, _<_, _≤_}
+use Prim.Native.Nat.{ℕ, _+_, _-_, _<_, _≤_}
 use native.Mathlib.Omega.{arith}
 use lib.Dec.{eqb}
 use lib.ListN.{length, take, drop, length-drop, drop-of-length-le}
 use lib.Seq.{length-take-le, drop-drop}
 use borrow.Author.Tests.{ne-eqb, leb-true}
-use Rattle.lists.proofs.Tests.{by-test, true-false}
+use Rattle.lists.proofs.Tests.{true-false}
 use Rattle.notification.specs.Reading.{linesIn}
 use Rattle.reader.specs.Walking.{LineEnd}
 use Rattle.reader.proofs.Ends.{lines-here, lines-over}
@@ -26,8 +26,7 @@ use Rattle.session.proofs.Spans.{asks-only, asks-engagement, engaged-within, fi
 use Rattle.lines.proofs.Fronts.{drop-take}
 use Rattle.lines.proofs.Names.{none-wanted, by-itself, file-read}
 use Rattle.lines.specs.Scripts.{Line as Done, lineSays}
-use Rattle.lines.specs.Walking.{Walked, stands, hasRoom, next, nameFrom, nameAt, wanted, stops, tellsOn, answered, walk, NamedIn, Named, NamedIf, Progressed}
-use Rattle.lines.specs.declared.answering.Progress.{Progress}
+use Rattle.lines.specs.Walking.{Walked, stands, hasRoom, next, nameFrom, nameAt, wanted, stops, tellsOn, answered, walk, NamedIn, NamedIf, Progressed}
 use Rattle.lines.specs.declared.answering.Wants.{Wants}
 use Rattle.lines.specs.declared.answering.Wants.the-variants.{Input, File, Room}
 

@@ -6,8 +6,8 @@ use mathlib.Core.List.{List, [], _∷_, _++_, append-assoc, append-nil}
 use Prim.Native.Nat.{ℕ, zero, suc, _+_, _-_, _<_, _≤_, min}
 use native.Mathlib.Nat.{le-trans}
 use native.Mathlib.Omega.{arith}
-use lib.ListN.{length, take, drop, set, length-append, length-take, length-set}
-use lib.Seq.{sets, length-sets, take-at, take-append-seam, take-suc-set, take-all}
+use lib.ListN.{length, take, drop, length-append, length-take, length-set}
+use lib.Seq.{length-sets, take-at, take-append-seam, take-suc-set}
 use borrow.Author.Tests.{eqb-true, eqb-false}
 use lib.Dec.{eqb}
 use native.Mathlib.Numerals.{add-one}
@@ -21,16 +21,15 @@ use Rattle.register.specs.View.{held}
 use Rattle.tables.specs.Tables.{Columns}
 use Rattle.register.specs.declared.Head.{Head}
 use Rattle.register.proofs.Runs.{Begun, begun-is}
-use Rattle.script.specs.Lines.{Asked, file, lineOf}
+use Rattle.script.specs.Lines.{lineOf}
 use Rattle.script.specs.Spans.{cut}
-use Rattle.lines.specs.Scripts.{linesAfter, linesOf, joined, Files, Found, nameOf, printed}
+use Rattle.lines.specs.Scripts.{linesAfter, linesOf, joined, Files, nameOf, printed}
 use Rattle.lines.specs.Walking.{heldOf, isLast, ended, Walked, walk, Named, NamedIf}
-use Rattle.lines.specs.declared.answering.Wants.{Wants}
-use Rattle.lines.specs.declared.answering.Wants.the-variants.{Input, File, Room}
+use Rattle.lines.specs.declared.answering.Wants.the-variants.{Input, File}
 use Rattle.lines.proofs.Fronts.{put-front, none-held, some-last}
-use Rattle.lines.proofs.Cutting.{First, first-line, no-first, of-first, of-last, last-some, cuts, cut-line, same-asked, held-alike}
-use Rattle.lines.proofs.Printing.{Fits, Passed, Left, walk-prints}
-use Rattle.lines.proofs.Blocks.{Held, Ended, Went, Standing, block, walked, reads, further, writes, Ran, starts, fed, found, wrote, went, closed, held-is, ended-is, Walks, went-is}
+use Rattle.lines.proofs.Cutting.{first-line, no-first, of-first, of-last, last-some, cuts, cut-line, same-asked, held-alike}
+use Rattle.lines.proofs.Printing.{Fits, Left, walk-prints}
+use Rattle.lines.proofs.Blocks.{Held, Ended, Standing, block, walked, reads, further, writes, Ran, starts, fed, found, wrote, went, closed, held-is, ended-is, Walks, went-is}
 
 -- no input has as many bytes as 64 bits can count
 abbrev pub most : ℕ

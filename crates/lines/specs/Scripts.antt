@@ -1,5 +1,5 @@
 -- A SCRIPT (document 01, "The script program"): which lines an input has, and what is printed for them.
-use mathlib.Core.Bool.{Bool, false, cond}
+use mathlib.Core.Bool.{Bool, cond}
 use mathlib.Core.List.{List, [], _∷_, _++_}
 use Prim.Native.Nat.{ℕ, suc}
 use lib.Dec.{eqb}

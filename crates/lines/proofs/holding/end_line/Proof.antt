@@ -1,7 +1,5 @@
 -- Where nothing is held, or no room is left, the input stays as it is; else LF is put behind what is held.
 use borrow.Author.Needs.{needs}
-use borrow.Author.Tests.{le-ltb, lt-ltb}
-use mathlib.Core.Path.{_≡_}
 use native.Mathlib.Omega.{arith}
 use Rattle.lines.proofs.Fronts.{none-held, none-left, some-last}
 use Rattle.lines.proofs.holding.end_line.Statement.{statement}
