@@ -65,7 +65,7 @@ any-found n l f g unknown e = refl
 pub next-is : (n : ℕ) → n + 1 < 18446744073709551616 → next n ≡ suc n
 next-is n h = mod-eq-of-lt h ∙ add-one n
 
-some : (n : ℕ) → (n ≡ 0 → ⊥) → 0 < n
+pub some : (n : ℕ) → (n ≡ 0 → ⊥) → 0 < n
 some zero f = absurd (f refl)
 some (suc n) f = omega arith
 

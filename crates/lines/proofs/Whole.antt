@@ -3,7 +3,7 @@
 use mathlib.Core.Path.{_≡_, refl, sym, ap, _∙_, subst}
 use mathlib.Core.Bool.{Bool, true, false}
 use mathlib.Core.List.{List, [], _∷_, _++_, append-assoc, append-nil}
-use Prim.Native.Nat.{ℕ, zero, suc, _+_, _-_, _<_, _≤_, min}
+use Prim.Native.Nat.{ℕ, suc, _+_, _-_, _<_, _≤_, min}
 use native.Mathlib.Nat.{le-trans}
 use native.Mathlib.Omega.{arith}
 use lib.ListN.{length, take, drop, length-append, length-take, length-set}
@@ -28,7 +28,7 @@ use Rattle.lines.specs.Walking.{heldOf, isLast, ended, Walked, walk, Nam
 use Rattle.lines.specs.declared.answering.Wants.the-variants.{Input, File}
 use Rattle.lines.proofs.Fronts.{put-front, none-held, some-last}
 use Rattle.lines.proofs.Cutting.{first-line, no-first, of-first, of-last, last-some, cuts, cut-line, same-asked, held-alike}
-use Rattle.lines.proofs.Printing.{Fits, Left, walk-prints}
+use Rattle.lines.proofs.Printing.{some, Fits, Left, walk-prints}
 use Rattle.lines.proofs.Blocks.{Held, Ended, Standing, block, walked, reads, further, writes, Ran, starts, fed, found, wrote, went, closed, held-is, ended-is, Walks, went-is}
 
 -- no input has as many bytes as 64 bits can count
@@ -167,10 +167,6 @@ nothing : (s : List ℕ) → length s ≡ 0 → s ≡ []
 nothing [] e = refl
 nothing (b ∷ s) e = absurd (omega (arith, e))
 
-positive : (n : ℕ) → (n ≡ 0 → ⊥) → 0 < n
-positive zero f = absurd (f refl)
-positive (suc n) f = omega arith
-
 no-lines : linesOf [] ≡ linesIn []
 unfolding linesAfter linesIn
 no-lines = refl
@@ -252,10 +248,10 @@ module _ (files : Files) (bs : List (List ℕ)) (s : Standing) (t : Tells files 
       let m0 : m ≡ 0 = z .1 ∙ sym (none-held front n n0 .1) in
       end [] (rw m0 refl) (rw none refl) (omega arith) no-lines)
       (λ g.
-      let some : 0 < n = positive n (eqb-false n 0 g) in
-      let x = some-last front n some below in
+      let more : 0 < n = some n (eqb-false n 0 g) in
+      let x = some-last front n more below in
       let e : take m input ≡ take 513 (unread s) ++ 10 ∷ [] = rw (z .0, z .1, ← x .0, ← x .1, add-one) (take-suc-set front n 10 below ∙ ap (λ (y : List ℕ). y ++ 10 ∷ []) f) in
-      end (take 513 (unread s) ++ 10 ∷ []) e (sym (last-alike files (held (s .register)) (suc (s .number)) (unread s) unbroken (omega (arith, some, u, count))))
+      end (take 513 (unread s) ++ 10 ∷ []) e (sym (last-alike files (held (s .register)) (suc (s .number)) (unread s) unbroken (omega (arith, more, u, count))))
       (rw length-append (omega (arith, count))) (lf-lines (take 513 (unread s)) (every-take inLine 513 (unread s) unbroken)))
 
 -- ---- every run
