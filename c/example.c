@@ -4,9 +4,7 @@
 
 #include "register.h"
 
-/* The register: its head and its columns. */
-static register_head head;
-static register_columns columns;
+static register_state state;
 
 static const char north[] = "17X100A100R0000L";
 static const char south[] = "17X100A100R0001J";
@@ -32,13 +30,6 @@ static void print(const char *call, register_said said)
     printf("\n");
 }
 
-/* Takes over the head that a call leaves, and prints what it says. */
-static void take(const char *call, register_turn turn)
-{
-    head = turn.head;
-    print(call, turn.said);
-}
-
 static uint32_t day_of(const char *date)
 {
     return calendar_day(TEXT(date));
@@ -50,7 +41,7 @@ static void load(const char *actor, uint32_t day, uint32_t approved, uint32_t po
     for (size_t k = 0; k < REGISTER_STEPS; k++) {
         powers[k] = power;
     }
-    take("load", register_load(head, columns.loads, TEXT(actor), TEXT(category), day, approved, powers, calendar_steps(day)));
+    print("load", register_load(&state, TEXT(actor), TEXT(category), day, approved, powers, calendar_steps(day)));
 }
 
 /* Files an exchange of one power from north to south, by one of them. */
@@ -71,21 +62,19 @@ static void file(const char *submitter, uint32_t day, uint16_t power)
         return;
     }
     printf("%.*s, %zu bytes\n", (int)written.name, (const char *)name, written.body);
-    take("file", register_file(head, columns.keys, columns.marks, columns.rows, columns.loads, TEXT(submitter), name, written.name,
-                               body, written.body));
+    print("file", register_file(&state, TEXT(submitter), name, written.name, body, written.body));
 }
 
 static void engagement(const char *actor, uint32_t day, uint32_t step)
 {
     char call[64];
     snprintf(call, sizeof call, "engagement of %s at step %u", actor, (unsigned)step);
-    print(call, register_engagement(head, columns.keys, columns.marks, columns.rows, columns.loads, TEXT(actor), TEXT(category), day,
-                                    step));
+    print(call, register_engagement(&state, TEXT(actor), TEXT(category), day, step));
 }
 
 static void record(const char *asker, uint32_t id)
 {
-    register_record_shown shown = register_record(head, columns.keys, columns.marks, columns.rows, TEXT(asker), id);
+    register_record_shown shown = register_record(&state, TEXT(asker), id);
     if (shown.number != 0) {
         printf("record %u: refused by %u at %u\n", (unsigned)id, (unsigned)shown.number, (unsigned)shown.place);
         return;
@@ -101,12 +90,12 @@ int main(void)
     uint32_t day = day_of("20211031");
     uint32_t ids[REGISTER_RECORDS];
 
-    head = register_fresh();
+    register_fresh(&state);
     printf("day %u has %u steps\n", (unsigned)day, (unsigned)calendar_steps(day));
-    take("advance", register_advance(head, day - 1, 600));
-    take("enrol", register_enrol_actor(head, TEXT(north), day - 30, day + 30));
-    take("enrol", register_enrol_actor(head, TEXT(south), day - 30, day + 30));
-    take("enrol", register_enrol_category(head, TEXT(category)));
+    print("advance", register_advance(&state, day - 1, 600));
+    print("enrol", register_enrol_actor(&state, TEXT(north), day - 30, day + 30));
+    print("enrol", register_enrol_actor(&state, TEXT(south), day - 30, day + 30));
+    print("enrol", register_enrol_category(&state, TEXT(category)));
     load(north, day, 100, 60);
     load(south, day, 100, 0);
 
@@ -116,7 +105,7 @@ int main(void)
     engagement(north, day, 49);
     engagement(south, day, 49);
 
-    take("advance", register_advance(head, day, 600));
+    print("advance", register_advance(&state, day, 600));
     file(south, day, 50);
     file(north, day, 50);
     engagement(south, day, 21);
@@ -124,13 +113,13 @@ int main(void)
     for (uint32_t id = 1; id <= 5; id++) {
         record(north, id);
     }
-    register_said history = register_history(head, columns.keys, TEXT(south), ids, REGISTER_RECORDS);
+    register_said history = register_history(&state, TEXT(south), ids, REGISTER_RECORDS);
     print("history", history);
     for (uint32_t i = 0; history.number == 0 && i < history.values[0]; i++) {
         printf("  id %u\n", (unsigned)ids[i]);
     }
-    print("history", register_history(head, columns.keys, TEXT(south), ids, 3));
+    print("history", register_history(&state, TEXT(south), ids, 3));
     file(north, day, 61);
-    take("advance", register_advance(head, day, 599));
+    print("advance", register_advance(&state, day, 599));
     return 0;
 }

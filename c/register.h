@@ -1,22 +1,22 @@
-/* The reserve exchange register for C: the functions of the proved static library register_c.
+/* The reserve exchange register for C, over the proved static library register_c.
  *
  *     rt staticlib register_c
  *     cc -std=c11 -Wall -Wextra -Werror -I c program.c target/staticlib/libregister_c.a
  *
- * The caller holds the register: a head, which each call takes by value and gives back, and the columns, which it is lent. A fresh
- * register is register_fresh()'s head with columns of zeros. Calls go one after another, each with the head and the columns that the
- * one before left. There is no heap and no hidden state.
+ * The caller holds the register: one struct, register_state, to which each call gets a pointer. register_fresh begins it, and calls go
+ * one after another. There is no heap and no hidden state.
  *
- * Every function answers for every argument: a result, or one refusal of document 01 as its number and place. A refused call gives
- * back the head that it got, and writes nothing. A text or a list is a pointer and a length; it may be anything, and its form is
- * judged by the call. A pointer is never null and must be good for its length, or for the whole array that it stands for, and what a
- * call may write must not overlap what else it is lent.
+ * Every function answers for every argument: a result, or one refusal of document 01 as its number and place. A refused call changes
+ * nothing. A text or a list is a pointer and a length; it may be anything, and its form is judged by the call. A pointer is never null
+ * and must be good for its length, or for the whole struct or array that it stands for, and what a call may write must not overlap what
+ * else it is lent.
  */
 #ifndef REGISTER_H
 #define REGISTER_H
 
 #include <stddef.h>
 #include <stdint.h>
+#include <string.h>
 
 #ifdef __cplusplus
 extern "C" {
@@ -39,7 +39,7 @@ extern "C" {
 /* What calendar_day gives for a text that is no date. */
 #define CALENDAR_NO_DAY 36525
 
-/* ---- The head. Its parts are the register's own: read them if you like, and leave writing to the calls. ---- */
+/* ---- The register. Its parts are its own: read them if you like, and leave writing to the calls. ---- */
 
 /* A day and the minutes elapsed since its local midnight. */
 typedef struct {
@@ -69,29 +69,14 @@ typedef struct {
     register_category entries[REGISTER_CATEGORIES];
 } register_categories;
 
-/* Actor, category and day of each load as one number, and its approved power. */
-typedef struct {
-    uint32_t count;
-    uint32_t keys[REGISTER_LOADS];
-    uint16_t approved[REGISTER_LOADS];
-} register_loads;
-
-/* Status and id of each record. */
-typedef struct {
-    uint32_t count;
-    uint8_t statuses[REGISTER_RECORDS];
-    uint32_t ids[REGISTER_RECORDS];
-} register_records;
-
+/* The clock, who is enrolled, and how many loads and records there are. */
 typedef struct {
     register_clock clock;
     register_actors actors;
     register_categories categories;
-    register_loads loads;
-    register_records records;
+    uint32_t loads;
+    uint32_t records;
 } register_head;
-
-/* ---- The columns. ---- */
 
 /* One power for each step, 0 past the day's steps. */
 typedef struct {
@@ -103,13 +88,20 @@ typedef struct {
     uint8_t bytes[4];
 } register_mark;
 
-/* All that is lent, for a program that wants it in one place. Zeros at first. */
+/* The register: its head, and the columns of its records and loads. Past their counts the columns hold anything. */
 typedef struct {
+    register_head head;
+    /* of each record: status, id, its key as one number, mark, powers */
+    uint8_t statuses[REGISTER_RECORDS];
+    uint32_t ids[REGISTER_RECORDS];
     uint32_t keys[REGISTER_RECORDS];
     register_mark marks[REGISTER_RECORDS];
     register_row rows[REGISTER_RECORDS];
+    /* of each load: actor, category and day as one number, approved power, powers */
+    uint32_t numbers[REGISTER_LOADS];
+    uint16_t approved[REGISTER_LOADS];
     register_row loads[REGISTER_LOADS];
-} register_columns;
+} register_state;
 
 /* ---- Answers. ---- */
 
@@ -122,12 +114,6 @@ typedef struct {
     uint32_t letter;
     uint32_t values[3];
 } register_said;
-
-/* The head that a call leaves, and what it says. */
-typedef struct {
-    register_head head;
-    register_said said;
-} register_turn;
 
 /* Number and place of the refusal, 0 and 0 where there is none; then the record, which is all zeros beside a refusal. The statuses:
  * C created, A answered, S deleted, V validated, P validated and updated, O obsolete. */
@@ -171,48 +157,133 @@ typedef struct {
     uint8_t digits[8];
 } calendar_text;
 
-/* ---- The calls. What is named after "Values" stands in said.values of an accepted call. ---- */
+/* ---- The library's calls. Each takes the head by value, is lent the columns that it needs, and gives back the head that it leaves: what
+ * is proved of the register is proved of these. The functions below keep head and columns together, and say what each call does. ---- */
 
-/* A register that holds nothing, with its clock at day 0, minute 0. */
-register_head register_fresh(void);
+/* A fresh register's head, and the statuses and ids of its records. */
+typedef struct {
+    register_head head;
+    uint8_t statuses[REGISTER_RECORDS];
+    uint32_t ids[REGISTER_RECORDS];
+} register_start;
+
+/* The head that a call leaves, and what it says. */
+typedef struct {
+    register_head head;
+    register_said said;
+} register_turn;
+
+register_start register_head_fresh(void);
+
+register_turn register_head_enrol_actor(register_head head, const uint8_t *code, size_t code_length, uint32_t first, uint32_t last);
+
+register_turn register_head_enrol_category(register_head head, const uint8_t *text, size_t text_length);
+
+register_turn register_head_load(register_head head, uint32_t numbers[REGISTER_LOADS], uint16_t approved[REGISTER_LOADS],
+                                 register_row loads[REGISTER_LOADS], const uint8_t *actor, size_t actor_length,
+                                 const uint8_t *category, size_t category_length, uint32_t day, uint32_t most,
+                                 const uint32_t *powers, size_t powers_length);
+
+register_turn register_head_file(register_head head, uint8_t statuses[REGISTER_RECORDS], uint32_t ids[REGISTER_RECORDS],
+                                 uint32_t keys[REGISTER_RECORDS], register_mark marks[REGISTER_RECORDS],
+                                 register_row rows[REGISTER_RECORDS], const uint32_t numbers[REGISTER_LOADS],
+                                 const uint16_t approved[REGISTER_LOADS], const register_row loads[REGISTER_LOADS],
+                                 const uint8_t *submitter, size_t submitter_length, const uint8_t *name, size_t name_length,
+                                 const uint8_t *body, size_t body_length);
+
+register_turn register_head_advance(register_head head, uint32_t day, uint32_t minute);
+
+register_said register_head_engagement(register_head head, const uint8_t statuses[REGISTER_RECORDS],
+                                       const uint32_t keys[REGISTER_RECORDS], const register_mark marks[REGISTER_RECORDS],
+                                       const register_row rows[REGISTER_RECORDS], const uint32_t numbers[REGISTER_LOADS],
+                                       const register_row loads[REGISTER_LOADS], const uint8_t *actor, size_t actor_length,
+                                       const uint8_t *category, size_t category_length, uint32_t day, uint32_t step);
+
+register_record_shown register_head_record(register_head head, const uint8_t statuses[REGISTER_RECORDS],
+                                           const uint32_t ids[REGISTER_RECORDS], const uint32_t keys[REGISTER_RECORDS],
+                                           const register_mark marks[REGISTER_RECORDS], const register_row rows[REGISTER_RECORDS],
+                                           const uint8_t *asker, size_t asker_length, uint32_t id);
+
+register_said register_head_history(register_head head, const uint32_t ids[REGISTER_RECORDS], const uint32_t keys[REGISTER_RECORDS],
+                                    const uint8_t *actor, size_t actor_length, uint32_t *out, size_t out_length);
+
+/* ---- The calls on a register. What is named after "Values" stands in the values of an accepted call. ---- */
+
+/* Keeps the head that a call leaves, and gives what it says. */
+static inline register_said register_keep(register_state *r, register_turn turn)
+{
+    r->head = turn.head;
+    return turn.said;
+}
+
+/* Makes a register that holds nothing, with its clock at day 0, minute 0. What stood there before means nothing. */
+static inline void register_fresh(register_state *r)
+{
+    register_start start = register_head_fresh();
+    r->head = start.head;
+    memcpy(r->statuses, start.statuses, sizeof r->statuses);
+    memcpy(r->ids, start.ids, sizeof r->ids);
+}
 
 /* Enrols an actor. Values: how many actors there now are. Refusals 9, 10, 37, 36. */
-register_turn register_enrol_actor(register_head head, const uint8_t *code, size_t code_length, uint32_t first, uint32_t last);
+static inline register_said register_enrol_actor(register_state *r, const uint8_t *code, size_t code_length, uint32_t first,
+                                                 uint32_t last)
+{
+    return register_keep(r, register_head_enrol_actor(r->head, code, code_length, first, last));
+}
 
 /* Enrols a category. Values: how many categories there now are. Refusals 9, 37, 36. */
-register_turn register_enrol_category(register_head head, const uint8_t *text, size_t text_length);
+static inline register_said register_enrol_category(register_state *r, const uint8_t *text, size_t text_length)
+{
+    return register_keep(r, register_head_enrol_category(r->head, text, text_length));
+}
 
 /* Gives one actor, category and day an approved power and one loaded power per step. Values: how many loads there now are. Refusals
  * 10, 22, 23, 39, 37, 36. */
-register_turn register_load(register_head head, register_row loads[REGISTER_LOADS], const uint8_t *actor, size_t actor_length,
-                            const uint8_t *category, size_t category_length, uint32_t day, uint32_t approved,
-                            const uint32_t *powers, size_t powers_length);
+static inline register_said register_load(register_state *r, const uint8_t *actor, size_t actor_length, const uint8_t *category,
+                                          size_t category_length, uint32_t day, uint32_t approved, const uint32_t *powers,
+                                          size_t powers_length)
+{
+    return register_keep(r, register_head_load(r->head, r->numbers, r->approved, r->loads, actor, actor_length, category,
+                                               category_length, day, approved, powers, powers_length));
+}
 
 /* Files a notification: the submitter's code, the file's name, the file's body. Values: the record's id, its status's letter, its
  * from-step. Refusals 1 to 8, then 20 to 36. */
-register_turn register_file(register_head head, uint32_t keys[REGISTER_RECORDS], register_mark marks[REGISTER_RECORDS],
-                            register_row rows[REGISTER_RECORDS], const register_row loads[REGISTER_LOADS],
-                            const uint8_t *submitter, size_t submitter_length, const uint8_t *name, size_t name_length,
-                            const uint8_t *body, size_t body_length);
+static inline register_said register_file(register_state *r, const uint8_t *submitter, size_t submitter_length, const uint8_t *name,
+                                          size_t name_length, const uint8_t *body, size_t body_length)
+{
+    return register_keep(r, register_head_file(r->head, r->statuses, r->ids, r->keys, r->marks, r->rows, r->numbers, r->approved,
+                                               r->loads, submitter, submitter_length, name, name_length, body, body_length));
+}
 
 /* Advances the clock; the same moment is accepted. No values. Refusals 10, 38. */
-register_turn register_advance(register_head head, uint32_t day, uint32_t minute);
+static inline register_said register_advance(register_state *r, uint32_t day, uint32_t minute)
+{
+    return register_keep(r, register_head_advance(r->head, day, minute));
+}
 
 /* An actor's own engagement at a step. Values: the power. Refusals 22, 23, 10. */
-register_said register_engagement(register_head head, const uint32_t keys[REGISTER_RECORDS],
-                                  const register_mark marks[REGISTER_RECORDS], const register_row rows[REGISTER_RECORDS],
-                                  const register_row loads[REGISTER_LOADS], const uint8_t *actor, size_t actor_length,
-                                  const uint8_t *category, size_t category_length, uint32_t day, uint32_t step);
+static inline register_said register_engagement(const register_state *r, const uint8_t *actor, size_t actor_length,
+                                                const uint8_t *category, size_t category_length, uint32_t day, uint32_t step)
+{
+    return register_head_engagement(r->head, r->statuses, r->keys, r->marks, r->rows, r->numbers, r->loads, actor, actor_length,
+                                    category, category_length, day, step);
+}
 
 /* A record by id, for an actor who is ceder or acquirer of it. Refusals 22, 40, 41. */
-register_record_shown register_record(register_head head, const uint32_t keys[REGISTER_RECORDS],
-                                      const register_mark marks[REGISTER_RECORDS], const register_row rows[REGISTER_RECORDS],
-                                      const uint8_t *asker, size_t asker_length, uint32_t id);
+static inline register_record_shown register_record(const register_state *r, const uint8_t *asker, size_t asker_length, uint32_t id)
+{
+    return register_head_record(r->head, r->statuses, r->ids, r->keys, r->marks, r->rows, asker, asker_length, id);
+}
 
 /* Puts the ids of all records that an actor is a party to into a lent buffer, each once, the rest untouched. Values: how many they
  * are. Refusals 22, 36. */
-register_said register_history(register_head head, const uint32_t keys[REGISTER_RECORDS], const uint8_t *actor,
-                               size_t actor_length, uint32_t *ids, size_t ids_length);
+static inline register_said register_history(const register_state *r, const uint8_t *actor, size_t actor_length, uint32_t *ids,
+                                             size_t ids_length)
+{
+    return register_head_history(r->head, r->ids, r->keys, actor, actor_length, ids, ids_length);
+}
 
 /* ---- The notification file. ---- */
 
@@ -240,21 +311,29 @@ REGISTER_CHECK(sizeof(register_actor) == 24);
 REGISTER_CHECK(sizeof(register_actors) == 196);
 REGISTER_CHECK(sizeof(register_category) == 6);
 REGISTER_CHECK(sizeof(register_categories) == 28);
-REGISTER_CHECK(sizeof(register_loads) == 388);
-REGISTER_CHECK(offsetof(register_loads, approved) == 260);
-REGISTER_CHECK(sizeof(register_records) == 1284);
-REGISTER_CHECK(offsetof(register_records, ids) == 260);
-REGISTER_CHECK(sizeof(register_head) == 1904);
+REGISTER_CHECK(sizeof(register_head) == 240);
 REGISTER_CHECK(offsetof(register_head, actors) == 8);
 REGISTER_CHECK(offsetof(register_head, categories) == 204);
 REGISTER_CHECK(offsetof(register_head, loads) == 232);
-REGISTER_CHECK(offsetof(register_head, records) == 620);
+REGISTER_CHECK(offsetof(register_head, records) == 236);
 REGISTER_CHECK(sizeof(register_row) == 100);
 REGISTER_CHECK(sizeof(register_mark) == 4);
+REGISTER_CHECK(sizeof(register_state) == 35952);
+REGISTER_CHECK(offsetof(register_state, statuses) == 240);
+REGISTER_CHECK(offsetof(register_state, ids) == 496);
+REGISTER_CHECK(offsetof(register_state, keys) == 1520);
+REGISTER_CHECK(offsetof(register_state, marks) == 2544);
+REGISTER_CHECK(offsetof(register_state, rows) == 3568);
+REGISTER_CHECK(offsetof(register_state, numbers) == 29168);
+REGISTER_CHECK(offsetof(register_state, approved) == 29424);
+REGISTER_CHECK(offsetof(register_state, loads) == 29552);
+REGISTER_CHECK(sizeof(register_start) == 1520);
+REGISTER_CHECK(offsetof(register_start, statuses) == 240);
+REGISTER_CHECK(offsetof(register_start, ids) == 496);
 REGISTER_CHECK(sizeof(register_said) == 28);
 REGISTER_CHECK(offsetof(register_said, values) == 16);
-REGISTER_CHECK(sizeof(register_turn) == 1932);
-REGISTER_CHECK(offsetof(register_turn, said) == 1904);
+REGISTER_CHECK(sizeof(register_turn) == 268);
+REGISTER_CHECK(offsetof(register_turn, said) == 240);
 REGISTER_CHECK(sizeof(register_record_shown) == 180);
 REGISTER_CHECK(offsetof(register_record_shown, powers) == 24);
 REGISTER_CHECK(offsetof(register_record_shown, submitter) == 124);

@@ -1,14 +1,14 @@
 -- The first counted step by the day's place before or after the clock's, the steps that count, and moments: none is
--- before itself, and what doesn't count at one moment doesn't count at a later one.
+-- before itself, and what doesn't count at one moment doesn't count at a later one. What is replaced whole, and what can be loaded.
 use mathlib.Core.Path.{_≡_, refl}
-use mathlib.Core.Bool.{Bool, true, false, _&&_}
+use mathlib.Core.Bool.{Bool, true, false, _&&_, _||_}
 use Prim.Native.Nat.{ℕ, _+_, _*_, _/_, _<_, _≤_}
 use native.Mathlib.Omega.{arith}
 use lib.Dec.{leb, ltb, eqb}
-use borrow.Author.Tests.{ltb-true, ltb-false, leb-true, lt-ltb, le-ltb, le-leb, lt-leb, eq-eqb}
+use borrow.Author.Tests.{ltb-true, ltb-false, leb-true, eqb-true, lt-ltb, le-ltb, le-leb, lt-leb, eq-eqb}
 use Rattle.calendar.specs.Dates.{date}
 use Rattle.calendar.specs.Steps.{stepMinutes, lastSunday, stepsOf}
-use Rattle.calendar.specs.Clocks.{freshClock, firstCounted, counts, isMoment, isBefore, advanceTests, advanced}
+use Rattle.calendar.specs.Clocks.{freshClock, firstCounted, counts, replacesWhole, loadable, isMoment, isBefore, advanceTests, advanced}
 use Rattle.refusals.specs.Tests.{firstMet, decide}
 use Rattle.refusals.specs.declared.Refusal.{Refusal}
 use Rattle.refusals.specs.declared.Verdict.{Verdict}
@@ -79,6 +79,35 @@ counts-earlier a b day step e k = go (ltb (a .day) day) refl
         let fa : firstCounted a day ≡ a .minute / stepMinutes + 2 = rw ed (first-today a) in
         let fb : firstCounted b day ≡ b .minute / stepMinutes + 2 = rw eb (first-today b) in
         counts-from a day step (omega arith) (omega arith)
+
+-- ---- the clock advances from a to b
+
+module _ (a b : Clock) (forward : isBefore b a ≡ false) where
+  pub day-mono : a .day ≤ b .day
+  day-mono =
+      ltb-false (b .day) (a .day) (both-false (ltb (b .day) (a .day)) (eqb (b .day) (a .day) && ltb (b .minute) (a .minute)) forward .0)
+
+  pub first-mono : (day : ℕ) → b .day ≤ day → firstCounted a day ≤ firstCounted b day
+  first-mono day h =
+      let now = counts-from b day (firstCounted b day) h (omega arith) in
+      counts-true a day (firstCounted b day) (counts-earlier a b day (firstCounted b day) forward now) .1
+
+-- ---- replacesWhole: a record that is replaced whole moves nothing before the new from-step
+
+pub whole-first : (c : Clock) (from day : ℕ) → replacesWhole c from day ≡ true → firstCounted c day ≤ from
+unfolding replacesWhole
+whole-first c from day e = go (eqb from (firstCounted c day)) (ltb (c .day) day) refl refl e
+  where
+    go : (x y : Bool) → eqb from (firstCounted c day) ≡ x → ltb (c .day) day ≡ y → (x || y) ≡ true → firstCounted c day ≤ from
+    go true y p q e = omega (arith, eqb-true from (firstCounted c day) p)
+    go false true p q e = omega (arith, first-later c day (ltb-true (c .day) day q))
+    go false false p q e = let z : _≡_ {A = ℕ} 0 1 = cc in absurd (omega arith)
+
+-- ---- loadable: the day counts whole
+
+pub loadable-counts : (c : Clock) (day step : ℕ) → loadable c day ≡ true → counts c day step ≡ true
+unfolding loadable
+loadable-counts c day step e = counts-later c day step (ltb-true (c .day) day e)
 
 -- ---- advanced
 

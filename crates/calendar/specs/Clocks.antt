@@ -26,6 +26,15 @@ firstCounted clock day = cond (ltb (clock .day) day) 0 (clock .minute / stepMinu
 unfoldable pub counts : Clock → ℕ → ℕ → Bool
 counts clock day step = leb (clock .day) day && leb (firstCounted clock day) step
 
+-- "An earlier V under the key becomes O if its from-step equals the new from-step or the day is after the clock's": a record of a day,
+-- validated from a step on, is replaced whole
+unfoldable pub replacesWhole : Clock → (from day : ℕ) → Bool
+replacesWhole clock from day = eqb from (firstCounted clock day) || ltb (clock .day) day
+
+-- refusal 39, "the load's day isn't after the clock's": a day can be loaded
+unfoldable pub loadable : Clock → ℕ → Bool
+loadable clock day = ltb (clock .day) day
+
 -- "a day and an elapsed minute below 30 times the day's steps"
 abbrev pub isMoment : Clock → Bool
 isMoment clock = ltb (clock .minute) (stepMinutes * stepsOf (clock .day))

@@ -1,6 +1,6 @@
 // The clock: "a day and an elapsed minute below 30 times the day's steps", a value whose methods take it and answer the next one.
 ghost use mathlib.Core.Path.{_≡_};
-ghost use Rattle.calendar.specs.Clocks.{freshClock, firstCounted, counts, isMoment, isBefore, advanced};
+ghost use Rattle.calendar.specs.Clocks.{freshClock, firstCounted, counts, replacesWhole, loadable, isMoment, isBefore, advanced};
 use crate::steps::STEP_MINUTES;
 use crate::steps::steps_of;
 use refusals::InputRefusal;
@@ -48,6 +48,21 @@ impl Clock {
     {
         let first = self.first_counted(day);
         (self.day <= day) & (first <= step)
+    }
+
+    // Whether a record of a day, validated from a step on, is replaced whole.
+    pub fn replaces_whole(self, from: u32, day: u32) -> bool
+        ensures { λ r. ⌜ r ≡ replacesWhole self from day ⌝ }
+    {
+        let first = self.first_counted(day);
+        (from == first) | (self.day < day)
+    }
+
+    // Whether a day can be loaded.
+    pub fn loadable(self, day: u32) -> bool
+        ensures { λ r. ⌜ r ≡ loadable self day ⌝ }
+    {
+        self.day < day
     }
 
     // Whether the minute is one of the day's.

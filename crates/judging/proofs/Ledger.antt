@@ -1,34 +1,27 @@
 -- The nets are the ledger's: what ceder and acquirer have without the key's own power, and the checks 32 to 35 by it.
-use mathlib.Core.Path.{_≡_, refl, sym, ap, _∙_}
+use mathlib.Core.Path.{_≡_, sym, ap, _∙_}
 use mathlib.Core.Bool.{Bool, true, cond, _&&_, _||_}
-use mathlib.Core.List.{List, [], _∷_}
-use Prim.Native.Nat.{ℕ, zero, suc, _+_, _-_, _/_, _%_, _≤_, _<_}
+use mathlib.Core.List.{List, []}
+use Prim.Native.Nat.{ℕ, _+_, _-_, _/_, _%_, _≤_, _<_}
 use native.Mathlib.Omega.{arith}
 use lib.Dec.{eqb, leb, ltb}
 use lib.ListN.{getD}
 use borrow.Author.Tests.{eqb-true, eq-eqb}
 use Rattle.lists.specs.Searches.{firstFrom}
-use Rattle.lists.specs.Sums.{sumTo, sumOver}
+use Rattle.lists.specs.Sums.{sumTo}
 use Rattle.lists.proofs.Sums.{sum-ext, sum-add, sum-zero}
 use Rattle.lists.proofs.Searches.{first-agree}
 use Rattle.refusals.specs.Tests.{firstMet}
-use Rattle.refusals.specs.declared.StateRefusal.the-variants.{CederBelow, AcquirerAbove, CederAbove, AcquirerBelow}
 use Rattle.ledger.specs.Statuses.{validated, updated}
 use Rattle.ledger.specs.Ledger.{Key, Rec, Ledger, movedBy, moved, underKey, cedes, acquires, power, ceded, acquired, loaded, approved, gained}
-use Rattle.ledger.specs.Filing.{cederBelow, acquirerAbove, cederAbove, acquirerBelow, failing}
-use Rattle.tables.specs.declared.records.Records.{Records}
-use Rattle.tables.specs.Tables.{Columns, downFrom, keyIn, recordIn}
+use Rattle.ledger.specs.Filing.{cederBelow, acquirerAbove, cederAbove, acquirerBelow, checks}
+use Rattle.tables.specs.Tables.{Columns, downFrom, keyFrom, recordIn}
 use Rattle.judging.specs.Nets.{base, part, Netted}
 use Rattle.judging.specs.Steps.{netTests}
 use Rattle.judging.specs.declared.nets.Nets.{Nets}
+use Rattle.tables.proofs.Down.{down-sum}
 use Rattle.tables.proofs.Keys.{key-same}
 use Rattle.judging.proofs.Keys.{same-order, sameDay, any-1, any-2, any-3, any-4, kind-packed, own-is, own-is-not, term-split}
-
--- ---- a sum over records by their places
-
-pub over-down : {A : Type 0} (f : ℕ → A) (w : A → ℕ) (n : ℕ) → sumOver (downFrom f n) w ≡ sumTo n (λ i. w (f i))
-over-down f w zero = refl
-over-down f w (suc n) = omega (arith, over-down f w n)
 
 -- one of the parties of a key is one of another's
 abbrev party : ℕ → ℕ → Bool
@@ -49,59 +42,59 @@ module _ (own m : ℕ) where
   acquirer-acquirer = any-4 (eqb (m / 8 % 8) (own / 8 % 8)) (eqb (m / 8 % 8) (own % 8)) (eqb (m % 8) (own / 8 % 8)) (eqb (m % 8) (own % 8))
 
 -- the records of the tables, the newest first
-abbrev pub held : Records → Columns → ℕ → List Rec
-held x cols n = downFrom (recordIn x cols) n
+abbrev pub held : Columns → ℕ → List Rec
+held cols n = downFrom (recordIn cols) n
 
 -- ---- what the records move, for the ceder and the acquirer of a key
 
-module _ (x : Records) (cols : Columns) (n own s : ℕ) where
+module _ (cols : Columns) (n own s : ℕ) where
   abbrev key : ℕ → ℕ
   key i = getD (cols .keys) i 0
 
   abbrev others : (ℕ → Bool) → ℕ
-  others kind = sumTo n (part cols (x .statuses) own kind s)
+  others kind = sumTo n (part cols own kind s)
 
   -- what record i moves under the key itself, where it is of a kind
   abbrev mine : (ℕ → Bool) → ℕ → ℕ
-  mine is i = cond (eqb (key i) own && (sameDay (key i) own && is (key i))) (movedBy s (recordIn x cols i)) 0
+  mine is i = cond (eqb (key i) own && (sameDay (key i) own && is (key i))) (movedBy s (recordIn cols i)) 0
 
   -- what the records of a kind move is what those of other keys move, and those of the key itself
   moved-split : (kind : Rec → Bool) (is : ℕ → Bool) →
-      ((i : ℕ) → kind (recordIn x cols i) ≡ (sameDay (key i) own && is (key i))) →
+      ((i : ℕ) → kind (recordIn cols i) ≡ (sameDay (key i) own && is (key i))) →
       ((m : ℕ) → is m ≡ true → party own m ≡ true) →
-      moved kind (held x cols n) s
+      moved kind (held cols n) s
       ≡ others is + sumTo n (mine is)
   unfolding moved
   moved-split kind is h p =
-      over-down (recordIn x cols) (λ r. cond (kind r) (movedBy s r) 0) n
-      ∙ sum-ext n (λ i. cond (kind (recordIn x cols i)) (movedBy s (recordIn x cols i)) 0)
-      (λ i. part cols (x .statuses) own is s i + mine is i)
+      down-sum (recordIn cols) n (λ r. cond (kind r) (movedBy s r) 0)
+      ∙ sum-ext n (λ i. cond (kind (recordIn cols i)) (movedBy s (recordIn cols i)) 0)
+      (λ i. part cols own is s i + mine is i)
       (λ i. rw (h i)
       (term-split (sameDay (key i) own) (is (key i)) (eqb (key i) own)
-      (eqb (getD (x .statuses) i 0) validated || eqb (getD (x .statuses) i 0) updated)
+      (eqb (getD (cols .statuses) i 0) validated || eqb (getD (cols .statuses) i 0) updated)
       (party own (key i))
       (leb (getD (getD (cols .marks) i []) 1 0) s && ltb s (getD (getD (cols .marks) i []) 2 0))
       (getD (getD (cols .rows) i []) s 0)
       (p (key i))))
-      ∙ sum-add n (part cols (x .statuses) own is s)
+      ∙ sum-add n (part cols own is s)
       (mine is)
 
   -- what those of the key itself move is the key's power, or nothing
   own-power : (is : ℕ → Bool) → ((m : ℕ) → m ≡ own → is m ≡ true) →
-      sumTo n (mine is) ≡ power (held x cols n) (keyIn own) s
+      sumTo n (mine is) ≡ power (held cols n) (keyFrom own) s
   unfolding power moved
   own-power is f =
-      sum-ext n _ (λ i. cond (underKey (keyIn own) (recordIn x cols i)) (movedBy s (recordIn x cols i)) 0)
-      (λ i. ap (λ b. cond b (movedBy s (recordIn x cols i)) 0) (own-is (key i) own (is (key i)) (f (key i)) ∙ sym (key-same (key i) own)))
-      ∙ sym (over-down (recordIn x cols) (λ r. cond (underKey (keyIn own) r) (movedBy s r) 0) n)
+      sum-ext n _ (λ i. cond (underKey (keyFrom own) (recordIn cols i)) (movedBy s (recordIn cols i)) 0)
+      (λ i. ap (λ b. cond b (movedBy s (recordIn cols i)) 0) (own-is (key i) own (is (key i)) (f (key i)) ∙ sym (key-same (key i) own)))
+      ∙ sym (down-sum (recordIn cols) n (λ r. cond (underKey (keyFrom own) r) (movedBy s r) 0))
 
   own-nothing : (is : ℕ → Bool) → ((m : ℕ) → m ≡ own → is m ≡ true → ⊥) →
       sumTo n (mine is) ≡ 0
   own-nothing is f =
-      sum-zero n _ (λ i h. ap (λ b. cond b (movedBy s (recordIn x cols i)) 0) (own-is-not (key i) own (is (key i)) (f (key i))))
+      sum-zero n _ (λ i h. ap (λ b. cond b (movedBy s (recordIn cols i)) 0) (own-is-not (key i) own (is (key i)) (f (key i))))
 
   -- the ceder cedes by records of other keys and by the key's, and acquires by records of other keys only
-  ceded-ceder : ceded (held x cols n) (own / 8 % 8) (own / 64 % 4) (own / 256) s ≡ others (λ m. eqb (m / 8 % 8) (own / 8 % 8)) + power (held x cols n) (keyIn own) s
+  ceded-ceder : ceded (held cols n) (own / 8 % 8) (own / 64 % 4) (own / 256) s ≡ others (λ m. eqb (m / 8 % 8) (own / 8 % 8)) + power (held cols n) (keyFrom own) s
   unfolding ceded
   ceded-ceder =
       moved-split (cedes (own / 8 % 8) (own / 64 % 4) (own / 256)) (λ m. eqb (m / 8 % 8) (own / 8 % 8))
@@ -110,7 +103,7 @@ module _ (x : Records) (cols : Columns) (n own s : ℕ) where
       ∙ ap (λ t. others (λ m. eqb (m / 8 % 8) (own / 8 % 8)) + t)
       (own-power (λ m. eqb (m / 8 % 8) (own / 8 % 8)) (λ m e. eq-eqb _ _ (ap (λ t. t / 8 % 8) e)))
 
-  acquired-acquirer : acquired (held x cols n) (own % 8) (own / 64 % 4) (own / 256) s ≡ others (λ m. eqb (m % 8) (own % 8)) + power (held x cols n) (keyIn own) s
+  acquired-acquirer : acquired (held cols n) (own % 8) (own / 64 % 4) (own / 256) s ≡ others (λ m. eqb (m % 8) (own % 8)) + power (held cols n) (keyFrom own) s
   unfolding acquired
   acquired-acquirer =
       moved-split (acquires (own % 8) (own / 64 % 4) (own / 256)) (λ m. eqb (m % 8) (own % 8))
@@ -120,7 +113,7 @@ module _ (x : Records) (cols : Columns) (n own s : ℕ) where
       (own-power (λ m. eqb (m % 8) (own % 8)) (λ m e. eq-eqb _ _ (ap (λ t. t % 8) e)))
 
   module _ (apart : own / 8 % 8 ≡ own % 8 → ⊥) where
-    acquired-ceder : acquired (held x cols n) (own / 8 % 8) (own / 64 % 4) (own / 256) s ≡ others (λ m. eqb (m % 8) (own / 8 % 8))
+    acquired-ceder : acquired (held cols n) (own / 8 % 8) (own / 64 % 4) (own / 256) s ≡ others (λ m. eqb (m % 8) (own / 8 % 8))
     unfolding acquired
     acquired-ceder =
         let e = moved-split (acquires (own / 8 % 8) (own / 64 % 4) (own / 256)) (λ m. eqb (m % 8) (own / 8 % 8))
@@ -130,7 +123,7 @@ module _ (x : Records) (cols : Columns) (n own s : ℕ) where
         (λ m e t. apart (sym (eqb-true _ _ t) ∙ ap (λ t. t % 8) e)) in
         omega (arith, e, z)
 
-    ceded-acquirer : ceded (held x cols n) (own % 8) (own / 64 % 4) (own / 256) s ≡ others (λ m. eqb (m / 8 % 8) (own % 8))
+    ceded-acquirer : ceded (held cols n) (own % 8) (own / 64 % 4) (own / 256) s ≡ others (λ m. eqb (m / 8 % 8) (own % 8))
     unfolding ceded
     ceded-acquirer =
         let e = moved-split (cedes (own % 8) (own / 64 % 4) (own / 256)) (λ m. eqb (m / 8 % 8) (own % 8))
@@ -143,9 +136,9 @@ module _ (x : Records) (cols : Columns) (n own s : ℕ) where
 -- ---- the nets of the ceder and the acquirer of a key, by what they start from
 
 module _
-    (x : Records) (cols : Columns) (n own : ℕ) (start r : Nets) (first until : ℕ)
-    (netted : Netted cols (x .statuses) n own start first until r)
-    (k : Key) (packed : keyIn own ≡ k) (apart : k .ceder ≡ k .acquirer → ⊥)
+    (cols : Columns) (n own : ℕ) (start r : Nets) (first until : ℕ)
+    (netted : Netted cols n own start first until r)
+    (k : Key) (packed : keyFrom own ≡ k) (apart : k .ceder ≡ k .acquirer → ⊥)
     (ceders acquirers : ℕ → ℕ)
     (ceder-starts : (s : ℕ) → first ≤ s → s < until → getD (start .ceder) s 0 ≡ base + ceders s)
     (acquirer-starts : (s : ℕ) → first ≤ s → s < until → getD (start .acquirer) s 0 ≡ base + acquirers s)
@@ -155,19 +148,19 @@ module _
 
     -- loaded, plus what it acquires, less what it cedes, with the key's power given back
     pub ceder-net : (s : ℕ) → first ≤ s → s < until →
-        getD (r .ceder) s 0 + ceded (held x cols n) (k .ceder) (k .category) (k .day) s
-        ≡ base + ceders s + acquired (held x cols n) (k .ceder) (k .category) (k .day) s + power (held x cols n) k s
+        getD (r .ceder) s 0 + ceded (held cols n) (k .ceder) (k .category) (k .day) s
+        ≡ base + ceders s + acquired (held cols n) (k .ceder) (k .category) (k .day) s + power (held cols n) k s
     ceder-net s h l =
         rw (← packed)
-        (omega (arith, netted .ceder s h l, ceder-starts s h l, ceded-ceder x cols n own s, acquired-ceder x cols n own s two))
+        (omega (arith, netted .ceder s h l, ceder-starts s h l, ceded-ceder cols n own s, acquired-ceder cols n own s two))
 
     -- loaded, plus what it acquires, less what it cedes and less the key's power
     pub acquirer-net : (s : ℕ) → first ≤ s → s < until →
-        getD (r .acquirer) s 0 + ceded (held x cols n) (k .acquirer) (k .category) (k .day) s + power (held x cols n) k s
-        ≡ base + acquirers s + acquired (held x cols n) (k .acquirer) (k .category) (k .day) s
+        getD (r .acquirer) s 0 + ceded (held cols n) (k .acquirer) (k .category) (k .day) s + power (held cols n) k s
+        ≡ base + acquirers s + acquired (held cols n) (k .acquirer) (k .category) (k .day) s
     acquirer-net s h l =
         rw (← packed)
-        (omega (arith, netted .acquirer s h l, acquirer-starts s h l, ceded-acquirer x cols n own s two, acquired-acquirer x cols n own s))
+        (omega (arith, netted .acquirer s h l, acquirer-starts s h l, ceded-acquirer cols n own s two, acquired-acquirer cols n own s))
 
 -- ---- the checks 32 to 35
 
@@ -179,10 +172,10 @@ abbrev givenBy : Ledger → Key → ℕ → ℕ → ℕ
 givenBy l k who s = ceded (l .records) who (k .category) (k .day) s
 
 module _
-    (x : Records) (cols : Columns) (n own : ℕ) (start r : Nets) (first until : ℕ)
-    (netted : Netted cols (x .statuses) n own start first until r)
-    (k : Key) (packed : keyIn own ≡ k) (apart : k .ceder ≡ k .acquirer → ⊥)
-    (l : Ledger) (records : l .records ≡ held x cols n)
+    (cols : Columns) (n own : ℕ) (start r : Nets) (first until : ℕ)
+    (netted : Netted cols n own start first until r)
+    (k : Key) (packed : keyFrom own ≡ k) (apart : k .ceder ≡ k .acquirer → ⊥)
+    (l : Ledger) (records : l .records ≡ held cols n)
     (ceder-starts : (s : ℕ) → first ≤ s → s < until →
     getD (start .ceder) s 0 ≡ base + loaded (l .loads) (k .ceder) (k .category) (k .day) s)
     (acquirer-starts : (s : ℕ) → first ≤ s → s < until →
@@ -202,7 +195,7 @@ module _
           rw records
           (omega (
             arith,
-            ceder-net x cols n own start r first until netted k packed apart
+            ceder-net cols n own start r first until netted k packed apart
                 (loaded (l .loads) (k .ceder) (k .category) (k .day)) (loaded (l .loads) (k .acquirer) (k .category) (k .day))
                 ceder-starts acquirer-starts s h i,
           ))
@@ -212,7 +205,7 @@ module _
           rw records
           (omega (
             arith,
-            acquirer-net x cols n own start r first until netted k packed apart
+            acquirer-net cols n own start r first until netted k packed apart
                 (loaded (l .loads) (k .ceder) (k .category) (k .day)) (loaded (l .loads) (k .acquirer) (k .category) (k .day))
                 ceder-starts acquirer-starts s h i,
           ))
@@ -254,11 +247,7 @@ module _
 
     -- the ledger's checks are those by the nets
     pub tests-agree :
-        (failing CederBelow (cederBelow l k ps) first until
-        ∷ failing AcquirerAbove (acquirerAbove l k ps) first until
-        ∷ failing CederAbove (cederAbove l k ps) first until
-        ∷ failing AcquirerBelow (acquirerBelow l k ps) first until
-        ∷ [])
+        checks (cederBelow l k ps) (acquirerAbove l k ps) (cederAbove l k ps) (acquirerBelow l k ps) first until
         ≡ netTests r ps ceders-most acquirers-most first until
     unfolding netTests
     tests-agree =
@@ -270,11 +259,6 @@ module _
         )
 
     pub verdicts-agree :
-        firstMet
-        (failing CederBelow (cederBelow l k ps) first until
-        ∷ failing AcquirerAbove (acquirerAbove l k ps) first until
-        ∷ failing CederAbove (cederAbove l k ps) first until
-        ∷ failing AcquirerBelow (acquirerBelow l k ps) first until
-        ∷ [])
+        firstMet (checks (cederBelow l k ps) (acquirerAbove l k ps) (cederAbove l k ps) (acquirerBelow l k ps) first until)
         ≡ firstMet (netTests r ps ceders-most acquirers-most first until)
     verdicts-agree = ap firstMet tests-agree

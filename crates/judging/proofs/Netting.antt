@@ -1,4 +1,4 @@
--- A net turned by one record, and while the records are passed: none, one that concerns the filing, one that doesn't, and all
+-- A net with one record applied, and while the records are passed: none, one that concerns the filing, one that doesn't, and all
 -- up to the next of the filing's category and day.
 use mathlib.Core.Path.{_≡_, refl, ap}
 use mathlib.Core.Bool.{Bool, true, false, cond, not, _&&_, Bool·beq, false≢true, true≢false}
@@ -12,11 +12,11 @@ use Rattle.lists.specs.Sums.{sumTo}
 use borrow.Author.Tests.{eqb-true, eq-eqb, le-leb, lt-ltb, le-ltb}
 use Rattle.lists.proofs.Tests.{by-test, true-false}
 use Rattle.tables.specs.Tables.{Columns}
-use Rattle.tables.specs.Passing.{loadRow, inMarket, isUnder, Listed}
+use Rattle.tables.specs.Passing.{loadRow, inMarket, isUnder, PlacesOf}
 use Rattle.tables.specs.declared.loads.Found.{Found}
 use Rattle.tables.specs.declared.loads.Found.the-variants.{At, Nothing}
 use Rattle.tables.proofs.Listing.{through, listed-skip}
-use Rattle.judging.specs.Nets.{base, Between, Based, Moved, Turned, spanned, concerns, gifts, gains, Netting}
+use Rattle.judging.specs.Nets.{base, Between, Based, Moved, Applied, spanned, concerns, gifts, gains, Netting}
 
 and-false : (a b : Bool) → b ≡ false → (a && b) ≡ false
 and-false true b e = e
@@ -41,9 +41,9 @@ nothing : (b : Bool) → _≡_ {A = ℕ} (cond b 0 0) 0
 nothing true = refl
 nothing false = refl
 
-turned-over : (b : Bool) (p : ℕ) → cond (not b) p 0 ≡ cond b 0 p
-turned-over true p = refl
-turned-over false p = refl
+given-otherwise : (b : Bool) (p : ℕ) → cond (not b) p 0 ≡ cond b 0 p
+given-otherwise true p = refl
+given-otherwise false p = refl
 
 one-of : (b : Bool) (p : ℕ) → cond b p 0 + cond b 0 p ≡ p
 one-of true p = omega arith
@@ -52,7 +52,7 @@ one-of false p = omega arith
 module _ (net : List ℕ) (gains gives : Bool) (mark row : List ℕ) (first until : ℕ) where
   -- a record that moves nothing at the counted steps
   still : length net ≡ 50 → ((s : ℕ) → first ≤ s → s < until → cond gives (spanned mark row s) 0 ≡ cond gains (spanned mark row s) 0) →
-      Turned net gains gives mark row first until net
+      Applied net gains gives mark row first until net
   still fifty f =
       record {
         fifty = fifty;
@@ -61,11 +61,11 @@ module _ (net : List ℕ) (gains gives : Bool) (mark row : List ℕ) (first unti
         high = λ s h. omega arith;
       }
 
-  pub turned-same : length net ≡ 50 → gains ≡ gives → Turned net gains gives mark row first until net
-  turned-same fifty e = still fifty (λ s h l. rw e)
+  pub applied-same : length net ≡ 50 → gains ≡ gives → Applied net gains gives mark row first until net
+  applied-same fifty e = still fifty (λ s h l. rw e)
 
-  pub turned-past : length net ≡ 50 → getD mark 2 0 ≤ first → Turned net gains gives mark row first until net
-  turned-past fifty e =
+  pub applied-past : length net ≡ 50 → getD mark 2 0 ≤ first → Applied net gains gives mark row first until net
+  applied-past fifty e =
       still fifty
       (λ s h l.
       let z : spanned mark row s ≡ 0 =
@@ -77,11 +77,11 @@ module _ (net : List ℕ) (gains gives : Bool) (mark row : List ℕ) (first unti
     whole : (s : ℕ) → first ≤ s → s < until → spanned mark row s ≡ getD row s 0
     whole s h l = rw (le-leb (getD mark 1 0) s (omega arith), lt-ltb s (getD mark 2 0) (omega arith))
 
-    pub turned-whole : (r : List ℕ) → until ≤ 50 → gives ≡ not gains → Moved net gains row r → Turned net gains gives mark row first until r
-    turned-whole r few e m =
+    pub applied-whole : (r : List ℕ) → until ≤ 50 → gives ≡ not gains → Moved net gains row r → Applied net gains gives mark row first until r
+    applied-whole r few e m =
         record {
           fifty = m .fifty;
-          each = λ s h l. rw (e, whole s h l, turned-over gains (getD row s 0)) (m .each s (omega arith));
+          each = λ s h l. rw (e, whole s h l, given-otherwise gains (getD row s 0)) (m .each s (omega arith));
           low = λ s h. omega (arith, m .each s h, m .small s h, one-of gains (getD row s 0));
           high = λ s h. omega (arith, m .each s h, m .small s h, one-of gains (getD row s 0));
         }
@@ -91,8 +91,8 @@ module _ (net : List ℕ) (gains gives : Bool) (mark row : List ℕ) (first unti
 sum-more : (n : ℕ) (f : ℕ → ℕ) → sumTo (n + 1) f ≡ sumTo n f + f n
 sum-more n f = rw add-one
 
-module _ (cols : Columns) (statuses : List ℕ) (own who : ℕ) (start : List ℕ) (first until : ℕ) where
-  pub netting-none : Between start base (base + 65535) → Netting cols statuses own who start first until 0 start
+module _ (cols : Columns) (own who : ℕ) (start : List ℕ) (first until : ℕ) where
+  pub netting-none : Between start base (base + 65535) → Netting cols own who start first until 0 start
   netting-none b =
       record {
         fifty = b .fifty;
@@ -101,7 +101,7 @@ module _ (cols : Columns) (statuses : List ℕ) (own who : ℕ) (start : List �
         high = λ s h. omega (arith, b .high s h);
       }
 
-  pub netting-between : (i : ℕ) (net : List ℕ) → i < 256 → Netting cols statuses own who start first until i net → Between net 65535 4294901760
+  pub netting-between : (i : ℕ) (net : List ℕ) → i < 256 → Netting cols own who start first until i net → Between net 65535 4294901760
   netting-between i net h t =
       record {
         fifty = t .fifty;
@@ -114,45 +114,45 @@ module _ (cols : Columns) (statuses : List ℕ) (own who : ℕ) (start : List �
     key = getD (cols .keys) i 0
 
     abbrev touched : Bool
-    touched = concerns (getD (cols .keys) i 0) (getD statuses i 0) own (own / 8 % 8) (own % 8)
+    touched = concerns (getD (cols .keys) i 0) (getD (cols .statuses) i 0) own (own / 8 % 8) (own % 8)
 
-    pub netting-same : (net : List ℕ) → touched ≡ false → Netting cols statuses own who start first until i net →
-        Netting cols statuses own who start first until (i + 1) net
+    pub netting-same : (net : List ℕ) → touched ≡ false → Netting cols own who start first until i net →
+        Netting cols own who start first until (i + 1) net
     netting-same net e t =
         record {
           fifty = t .fifty;
           each = λ s h l.
-              let g : gifts cols statuses own who s i ≡ 0 = rw e in
-              let f : gains cols statuses own who s i ≡ 0 = rw e in
-              omega (arith, t .each s h l, sum-more i (gifts cols statuses own who s), sum-more i (gains cols statuses own who s));
+              let g : gifts cols own who s i ≡ 0 = rw e in
+              let f : gains cols own who s i ≡ 0 = rw e in
+              omega (arith, t .each s h l, sum-more i (gifts cols own who s), sum-more i (gains cols own who s));
           low = λ s l. omega (arith, t .low s l);
           high = λ s l. omega (arith, t .high s l);
         }
 
-    pub netting-more : (net r : List ℕ) → touched ≡ true → Netting cols statuses own who start first until i net →
-        Turned net (eqb (key % 8) who) (eqb (key / 8 % 8) who) (getD (cols .marks) i []) (getD (cols .rows) i []) first until r →
-        Netting cols statuses own who start first until (i + 1) r
+    pub netting-more : (net r : List ℕ) → touched ≡ true → Netting cols own who start first until i net →
+        Applied net (eqb (key % 8) who) (eqb (key / 8 % 8) who) (getD (cols .marks) i []) (getD (cols .rows) i []) first until r →
+        Netting cols own who start first until (i + 1) r
     netting-more net r e t v =
         record {
           fifty = v .fifty;
           each = λ s h l.
               let p : ℕ = spanned (getD (cols .marks) i []) (getD (cols .rows) i []) s in
-              let g : gifts cols statuses own who s i ≡ cond (eqb (getD (cols .keys) i 0 / 8 % 8) who) p 0 = rw e in
-              let f : gains cols statuses own who s i ≡ cond (eqb (getD (cols .keys) i 0 % 8) who) p 0 = rw e in
-              omega (arith, t .each s h l, v .each s h l, sum-more i (gifts cols statuses own who s), sum-more i (gains cols statuses own who s));
+              let g : gifts cols own who s i ≡ cond (eqb (getD (cols .keys) i 0 / 8 % 8) who) p 0 = rw e in
+              let f : gains cols own who s i ≡ cond (eqb (getD (cols .keys) i 0 % 8) who) p 0 = rw e in
+              omega (arith, t .each s h l, v .each s h l, sum-more i (gifts cols own who s), sum-more i (gains cols own who s));
           low = λ s l. omega (arith, t .low s l, v .low s l);
           high = λ s l. omega (arith, t .high s l, v .high s l);
         }
 
   -- a record of another category and day concerns nobody, and is not under the key
   elsewhere : (i : ℕ) → inMarket (cols .keys) (own / 64) i ≡ false →
-      concerns (getD (cols .keys) i 0) (getD statuses i 0) own (own / 8 % 8) (own % 8) ≡ false
+      concerns (getD (cols .keys) i 0) (getD (cols .statuses) i 0) own (own / 8 % 8) (own % 8) ≡ false
   elsewhere i e = rw e
 
   pub netting-through : (i k : ℕ) (net : List ℕ) → i ≤ k → ((j : ℕ) → i ≤ j → j < k → inMarket (cols .keys) (own / 64) j ≡ false) →
-      Netting cols statuses own who start first until i net → Netting cols statuses own who start first until k net
+      Netting cols own who start first until i net → Netting cols own who start first until k net
   netting-through i k net h f t =
-      through (λ j. Netting cols statuses own who start first until j net) i k h (λ j a b. netting-same j net (elsewhere j (f j a b))) t
+      through (λ j. Netting cols own who start first until j net) i k h (λ j a b. netting-same j net (elsewhere j (f j a b))) t
 
 not-under : (keys : List ℕ) (own i : ℕ) → inMarket keys (own / 64) i ≡ false → isUnder keys own i ≡ false
 not-under keys own i e =
@@ -162,9 +162,9 @@ not-under keys own i e =
 
 pub listed-through : (keys : List ℕ) (own i k count : ℕ) (places : List ℕ) → i ≤ k →
     ((j : ℕ) → i ≤ j → j < k → inMarket keys (own / 64) j ≡ false) →
-    Listed (isUnder keys own) i count places → Listed (isUnder keys own) k count places
+    PlacesOf (isUnder keys own) i count places → PlacesOf (isUnder keys own) k count places
 listed-through keys own i k count places h f l =
-    through (λ j. Listed (isUnder keys own) j count places) i k h
+    through (λ j. PlacesOf (isUnder keys own) j count places) i k h
     (λ j a b t. listed-skip (isUnder keys own) j count places t (not-under keys own j (f j a b))) l
 
 -- ---- the nets that are started with: the powers of a load that was found, or none

@@ -1,5 +1,5 @@
 -- The verdict of the checks 32 to 35, by the steps that the searches find.
-use mathlib.Core.Path.{_≡_, refl, sym, _∙_, ap, ap₂}
+use mathlib.Core.Path.{_≡_, sym, _∙_, ap, ap₂}
 use mathlib.Core.Bool.{Bool, true, false, not, _&&_, _||_}
 use mathlib.Core.List.{List}
 use Prim.Native.Nat.{ℕ, _+_, _-_, _≤_, _<_}
@@ -7,63 +7,31 @@ use native.Mathlib.Omega.{arith}
 use native.Mathlib.Decide.{ℕ-discrete}
 use lib.Dec.{leb, ltb}
 use lib.ListN.{getD}
-use borrow.Author.Tests.{lt-ltb, le-ltb, leb-true, not-false}
+use borrow.Author.Tests.{le-ltb, leb-true, not-false}
 use Rattle.lists.specs.Searches.{firstFrom}
 use Rattle.lists.proofs.Searches.{first-agree, first-none}
 use Rattle.lists.proofs.Tests.{and-left, and-right, or-left, or-right}
-use Rattle.refusals.specs.Tests.{firstMet}
-use Rattle.refusals.specs.declared.StateRefusal.the-variants.{CederBelow, AcquirerAbove, CederAbove, AcquirerBelow}
+use Rattle.refusals.specs.Tests.{firstMet, tried}
+use Rattle.refusals.specs.declared.StateRefusal.{StateRefusal}
 use Rattle.refusals.specs.declared.Refusal.the-variants.{State}
-use Rattle.refusals.specs.declared.Verdict.the-variants.{Pass, No}
+use Rattle.refusals.specs.declared.Verdict.{Verdict}
+use Rattle.refusals.specs.declared.Verdict.the-variants.{Pass}
+use Rattle.refusals.proofs.Tests.{all-pass}
+use Rattle.ledger.specs.Filing.{failing}
 use Rattle.judging.specs.Nets.{base}
 use Rattle.judging.specs.Steps.{belowAt, stepFits, netTests}
 use Rattle.judging.specs.declared.nets.Nets.{Nets}
 
--- a search by two lists is one by what they hold
-pub below-agree : (left right : List ℕ) (f g : ℕ → ℕ) (first until : ℕ) → first ≤ until → until ≤ 50 →
+-- one check more, tried with the step that a search by two lists found, by what the lists hold
+pub then-checked : (first until : ℕ) → first ≤ until → until ≤ 50 → (r : StateRefusal) (left right : List ℕ) (f g : ℕ → ℕ) →
     ((s : ℕ) → s < 50 → getD left s 0 ≡ f s) → ((s : ℕ) → s < 50 → getD right s 0 ≡ g s) →
-    firstFrom (belowAt left right) first (until - first) ≡ firstFrom (λ s. ltb (f s) (g s)) first (until - first)
-below-agree left right f g first until h u l r =
-    first-agree (belowAt left right) (λ s. ltb (f s) (g s)) first (until - first)
-    (λ s a b. ap₂ ltb (l s (omega arith)) (r s (omega arith)))
-
-module _ (nets : Nets) (ps : List ℕ) (ceders acquirers first until : ℕ) where
-  -- the step that each check finds
-  abbrev pub first-32 : ℕ
-  first-32 = firstFrom (λ s. ltb (getD (nets .ceder) s 0) (base + getD ps s 0)) first (until - first)
-
-  abbrev pub first-33 : ℕ
-  first-33 = firstFrom (λ s. ltb (base + acquirers) (getD (nets .acquirer) s 0 + getD ps s 0)) first (until - first)
-
-  abbrev pub first-34 : ℕ
-  first-34 = firstFrom (λ s. ltb (base + ceders + getD ps s 0) (getD (nets .ceder) s 0)) first (until - first)
-
-  abbrev pub first-35 : ℕ
-  first-35 = firstFrom (λ s. ltb (getD (nets .acquirer) s 0 + getD ps s 0) base) first (until - first)
-
-  module _ (x : ℕ) (e : x ≡ first-32) where
-    pub refused-32 : x < until → No (State CederBelow x) ≡ firstMet (netTests nets ps ceders acquirers first until)
-    unfolding netTests
-    refused-32 h = rw (← e, lt-ltb x until h)
-
-    module _ (h : until ≤ x) (y : ℕ) (f : y ≡ first-33) where
-      pub refused-33 : y < until → No (State AcquirerAbove y) ≡ firstMet (netTests nets ps ceders acquirers first until)
-      unfolding netTests
-      refused-33 i = rw (← e, le-ltb x until h, ← f, lt-ltb y until i)
-
-      module _ (i : until ≤ y) (z : ℕ) (g : z ≡ first-34) where
-        pub refused-34 : z < until → No (State CederAbove z) ≡ firstMet (netTests nets ps ceders acquirers first until)
-        unfolding netTests
-        refused-34 j = rw (← e, le-ltb x until h, ← f, le-ltb y until i, ← g, lt-ltb z until j)
-
-        module _ (j : until ≤ z) (t : ℕ) (k : t ≡ first-35) where
-          pub refused-35 : t < until → No (State AcquirerBelow t) ≡ firstMet (netTests nets ps ceders acquirers first until)
-          unfolding netTests
-          refused-35 l = rw (← e, le-ltb x until h, ← f, le-ltb y until i, ← g, le-ltb z until j, ← k, lt-ltb t until l)
-
-          pub passed : until ≤ t → Pass ≡ firstMet (netTests nets ps ceders acquirers first until)
-          unfolding netTests
-          passed l = rw (← e, le-ltb x until h, ← f, le-ltb y until i, ← g, le-ltb z until j, ← k, le-ltb t until l)
+    (s : ℕ) → s ≡ firstFrom (belowAt left right) first (until - first) →
+    (u v w : Verdict) → w ≡ tried v (ltb s until, State r s) → v ≡ u →
+    w ≡ tried u (failing r (λ s. ltb (f s) (g s)) first until)
+then-checked first until h i r left right f g l m s e u v w t p =
+    t ∙ ap₂ (λ v s. tried v (ltb s until, State r s)) p
+    (e ∙ first-agree (belowAt left right) (λ s. ltb (f s) (g s)) first (until - first)
+    (λ s a b. ap₂ ltb (l s (omega arith)) (m s (omega arith))))
 
 -- ---- where every step fits, no check fails
 
@@ -99,11 +67,21 @@ module _ (c a p ceders acquirers : ℕ) (e : stepFits c a p ceders acquirers ≡
 pub all-passed : (nets : Nets) (ps : List ℕ) (ceders acquirers first until : ℕ) → first ≤ until →
     ((s : ℕ) → first ≤ s → s < until → stepFits (getD (nets .ceder) s 0) (getD (nets .acquirer) s 0) (getD ps s 0) ceders acquirers ≡ true) →
     Pass ≡ firstMet (netTests nets ps ceders acquirers first until)
+unfolding netTests
 all-passed nets ps ceders acquirers first until h fit =
-    let none : (p : ℕ → Bool) → ((s : ℕ) → first ≤ s → s < until → p s ≡ false) → until ≤ firstFrom p first (until - first) =
-    λ p f. omega (arith, first-none p first (until - first) (λ k a b. f k a (omega arith))) in
-    passed nets ps ceders acquirers first until _ refl
-    (none _ (λ s a b. fits-32 (getD (nets .ceder) s 0) (getD (nets .acquirer) s 0) (getD ps s 0) ceders acquirers (fit s a b))) _ refl
-    (none _ (λ s a b. fits-33 (getD (nets .ceder) s 0) (getD (nets .acquirer) s 0) (getD ps s 0) ceders acquirers (fit s a b))) _ refl
-    (none _ (λ s a b. fits-34 (getD (nets .ceder) s 0) (getD (nets .acquirer) s 0) (getD ps s 0) ceders acquirers (fit s a b))) _ refl
-    (none _ (λ s a b. fits-35 (getD (nets .ceder) s 0) (getD (nets .acquirer) s 0) (getD ps s 0) ceders acquirers (fit s a b)))
+    let none : (p : ℕ → Bool) → ((s : ℕ) → first ≤ s → s < until → p s ≡ false) → ltb (firstFrom p first (until - first)) until ≡ false =
+    λ p f. le-ltb _ until (omega (arith, first-none p first (until - first) (λ k a b. f k a (omega arith)))) in
+    sym
+    (all-pass (netTests nets ps ceders acquirers first until) (
+      none _ (λ s a b. fits-32 (getD (nets .ceder) s 0) (getD (nets .acquirer) s 0) (getD ps s 0) ceders acquirers (fit s a b)),
+      (
+        none _ (λ s a b. fits-33 (getD (nets .ceder) s 0) (getD (nets .acquirer) s 0) (getD ps s 0) ceders acquirers (fit s a b)),
+        (
+          none _ (λ s a b. fits-34 (getD (nets .ceder) s 0) (getD (nets .acquirer) s 0) (getD ps s 0) ceders acquirers (fit s a b)),
+          (
+            none _ (λ s a b. fits-35 (getD (nets .ceder) s 0) (getD (nets .acquirer) s 0) (getD ps s 0) ceders acquirers (fit s a b)),
+            tt,
+          ),
+        ),
+      ),
+    ))

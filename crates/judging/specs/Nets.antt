@@ -8,7 +8,7 @@ use lib.ListN.{length, getD}
 use Rattle.lists.specs.Sums.{sumTo}
 use Rattle.ledger.specs.Statuses.{validated, updated}
 use Rattle.tables.specs.Tables.{Columns}
-use Rattle.tables.specs.Passing.{isUnder, Listed}
+use Rattle.tables.specs.Passing.{isUnder, PlacesOf}
 use Rattle.judging.specs.declared.nets.Nets.{Nets}
 
 -- what nets are counted from
@@ -35,7 +35,7 @@ abbrev pub spanned : List ℕ → List ℕ → ℕ → ℕ
 spanned mark row s = cond (leb (getD mark 1 0) s && ltb s (getD mark 2 0)) (getD row s 0) 0
 
 -- a net with a marked row gained or given at the steps from first to before until
-pub record Turned (net : List ℕ) (gains gives : Bool) (mark row : List ℕ) (first until : ℕ) (r : List ℕ) : Type 0 where
+pub record Applied (net : List ℕ) (gains gives : Bool) (mark row : List ℕ) (first until : ℕ) (r : List ℕ) : Type 0 where
   pub fifty : length r ≡ 50
   pub each : (s : ℕ) → first ≤ s → s < until →
       getD r s 0 + cond gives (spanned mark row s) 0 ≡ getD net s 0 + cond gains (spanned mark row s) 0
@@ -60,35 +60,37 @@ concerns key status own ceder acquirer =
     eqb (key / 64) (own / 64) && not (eqb key own) && movesFor key status ceder acquirer
 
 -- what record i moves at step s where it concerns the filing, and is of a kind
-abbrev pub part : Columns → List ℕ → ℕ → (ℕ → Bool) → ℕ → ℕ → ℕ
-part cols statuses own kind s i =
-    cond (concerns (getD (cols .keys) i 0) (getD statuses i 0) own (own / 8 % 8) (own % 8) && kind (getD (cols .keys) i 0))
+abbrev pub part : Columns → ℕ → (ℕ → Bool) → ℕ → ℕ → ℕ
+part cols own kind s i =
+    cond
+    (concerns (getD (cols .keys) i 0) (getD (cols .statuses) i 0) own (own / 8 % 8) (own % 8)
+    && kind (getD (cols .keys) i 0))
     (spanned (getD (cols .marks) i []) (getD (cols .rows) i []) s)
     0
 
 -- the nets after the first n records
-pub record Netted (cols : Columns) (statuses : List ℕ) (n own : ℕ) (start : Nets) (first until : ℕ) (r : Nets) : Type 0 where
+pub record Netted (cols : Columns) (n own : ℕ) (start : Nets) (first until : ℕ) (r : Nets) : Type 0 where
   pub ceder : (s : ℕ) → first ≤ s → s < until →
-      getD (r .ceder) s 0 + sumTo n (part cols statuses own (λ k. eqb (k / 8 % 8) (own / 8 % 8)) s)
-      ≡ getD (start .ceder) s 0 + sumTo n (part cols statuses own (λ k. eqb (k % 8) (own / 8 % 8)) s)
+      getD (r .ceder) s 0 + sumTo n (part cols own (λ k. eqb (k / 8 % 8) (own / 8 % 8)) s)
+      ≡ getD (start .ceder) s 0 + sumTo n (part cols own (λ k. eqb (k % 8) (own / 8 % 8)) s)
   pub acquirer : (s : ℕ) → first ≤ s → s < until →
-      getD (r .acquirer) s 0 + sumTo n (part cols statuses own (λ k. eqb (k / 8 % 8) (own % 8)) s)
-      ≡ getD (start .acquirer) s 0 + sumTo n (part cols statuses own (λ k. eqb (k % 8) (own % 8)) s)
+      getD (r .acquirer) s 0 + sumTo n (part cols own (λ k. eqb (k / 8 % 8) (own % 8)) s)
+      ≡ getD (start .acquirer) s 0 + sumTo n (part cols own (λ k. eqb (k % 8) (own % 8)) s)
   pub ceder-high : (s : ℕ) → s < 50 → getD (r .ceder) s 0 ≤ most
   pub acquirer-high : (s : ℕ) → s < 50 → getD (r .acquirer) s 0 ≤ most
 
 -- what an actor's records of a kind move, of those that concern the filing
-abbrev pub gifts : Columns → List ℕ → ℕ → ℕ → ℕ → ℕ → ℕ
-gifts cols statuses own who s i = part cols statuses own (λ k. eqb (k / 8 % 8) who) s i
+abbrev pub gifts : Columns → ℕ → ℕ → ℕ → ℕ → ℕ
+gifts cols own who s i = part cols own (λ k. eqb (k / 8 % 8) who) s i
 
-abbrev pub gains : Columns → List ℕ → ℕ → ℕ → ℕ → ℕ → ℕ
-gains cols statuses own who s i = part cols statuses own (λ k. eqb (k % 8) who) s i
+abbrev pub gains : Columns → ℕ → ℕ → ℕ → ℕ → ℕ
+gains cols own who s i = part cols own (λ k. eqb (k % 8) who) s i
 
 -- an actor's net after i records
-pub record Netting (cols : Columns) (statuses : List ℕ) (own who : ℕ) (start : List ℕ) (first until i : ℕ) (net : List ℕ) : Type 0 where
+pub record Netting (cols : Columns) (own who : ℕ) (start : List ℕ) (first until i : ℕ) (net : List ℕ) : Type 0 where
   pub fifty : length net ≡ 50
   pub each : (s : ℕ) → first ≤ s → s < until →
-      getD net s 0 + sumTo i (gifts cols statuses own who s) ≡ getD start s 0 + sumTo i (gains cols statuses own who s)
+      getD net s 0 + sumTo i (gifts cols own who s) ≡ getD start s 0 + sumTo i (gains cols own who s)
   pub low : (s : ℕ) → s < 50 → base ≤ getD net s 0 + i * 65535
   pub high : (s : ℕ) → s < 50 → getD net s 0 ≤ base + (i + 1) * 65535
 
@@ -100,10 +102,11 @@ pub record Passing : Type 0 where
   pub count : ℕ
 
 -- record i is passed
-pub record PassedOne (cols : Columns) (statuses : List ℕ) (own first until i : ℕ) (was is : Passing) : Type 0 where
-  pub ceder : (start : List ℕ) → Netting cols statuses own (own / 8 % 8) start first until i (was .ceder) →
-      Netting cols statuses own (own / 8 % 8) start first until (i + 1) (is .ceder)
-  pub acquirer : (start : List ℕ) → Netting cols statuses own (own % 8) start first until i (was .acquirer) →
-      Netting cols statuses own (own % 8) start first until (i + 1) (is .acquirer)
-  pub places : Listed (isUnder (cols .keys) own) i (was .count) (was .places) → Listed (isUnder (cols .keys) own) (i + 1) (is .count) (is .places)
+pub record PassedOne (cols : Columns) (own first until i : ℕ) (was is : Passing) : Type 0 where
+  pub ceder : (start : List ℕ) → Netting cols own (own / 8 % 8) start first until i (was .ceder) →
+      Netting cols own (own / 8 % 8) start first until (i + 1) (is .ceder)
+  pub acquirer : (start : List ℕ) → Netting cols own (own % 8) start first until i (was .acquirer) →
+      Netting cols own (own % 8) start first until (i + 1) (is .acquirer)
+  pub places : PlacesOf (isUnder (cols .keys) own) i (was .count) (was .places) →
+      PlacesOf (isUnder (cols .keys) own) (i + 1) (is .count) (is .places)
   pub long : length (is .places) ≡ length (was .places)

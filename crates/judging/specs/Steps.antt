@@ -1,12 +1,11 @@
 -- The checks 32 to 35 by the nets of ceder and acquirer.
 use mathlib.Core.Bool.{Bool, _&&_}
-use mathlib.Core.List.{List, [], _∷_}
+use mathlib.Core.List.{List}
 use Prim.Native.Nat.{ℕ, _+_}
 use lib.Dec.{leb, ltb}
 use lib.ListN.{getD}
 use Rattle.refusals.specs.Tests.{Test}
-use Rattle.refusals.specs.declared.StateRefusal.the-variants.{CederBelow, AcquirerAbove, CederAbove, AcquirerBelow}
-use Rattle.ledger.specs.Filing.{failing}
+use Rattle.ledger.specs.Filing.{checks}
 use Rattle.judging.specs.Nets.{base}
 use Rattle.judging.specs.declared.nets.Nets.{Nets}
 
@@ -23,8 +22,9 @@ stepFits ceder acquirer p cedersMost acquirersMost =
 -- 32 to 35 by the nets: ceder, acquirer without the key's own power, and the filed power
 unfoldable pub netTests : Nets → List ℕ → ℕ → ℕ → ℕ → ℕ → List Test
 netTests nets ps cedersMost acquirersMost first until =
-    failing CederBelow (λ s. ltb (getD (nets .ceder) s 0) (base + getD ps s 0)) first until
-    ∷ failing AcquirerAbove (λ s. ltb (base + acquirersMost) (getD (nets .acquirer) s 0 + getD ps s 0)) first until
-    ∷ failing CederAbove (λ s. ltb (base + cedersMost + getD ps s 0) (getD (nets .ceder) s 0)) first until
-    ∷ failing AcquirerBelow (λ s. ltb (getD (nets .acquirer) s 0 + getD ps s 0) base) first until
-    ∷ []
+    checks
+    (λ s. ltb (getD (nets .ceder) s 0) (base + getD ps s 0))
+    (λ s. ltb (base + acquirersMost) (getD (nets .acquirer) s 0 + getD ps s 0))
+    (λ s. ltb (base + cedersMost + getD ps s 0) (getD (nets .ceder) s 0))
+    (λ s. ltb (getD (nets .acquirer) s 0 + getD ps s 0) base)
+    first until

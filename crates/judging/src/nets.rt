@@ -7,7 +7,7 @@ ghost use Prim.Native.Nat.{_+_, _<_, _≤_};
 ghost use lib.ListN.{length, getD, replicate};
 ghost use lib.Dec.{leb, ltb};
 ghost use Rattle.tables.specs.Passing.{loadRow};
-ghost use Rattle.judging.specs.Nets.{base, Between, Moved, Turned, Based};
+ghost use Rattle.judging.specs.Nets.{base, Between, Moved, Applied, Based};
 use tables::loads::Found;
 use tables::loads::LOADS;
 use tables::records::byte;
@@ -84,7 +84,7 @@ fn move_row(net: &mut [u32; 50], gains: bool, rows: &[[u16; 50]; 256], i: u32)
 }
 
 // A net with a record's powers gained, or given, at the counted steps of its span.
-fn turn_in_span(
+fn apply_in_span(
     net: &mut [u32; 50],
     gains: bool,
     gives: bool,
@@ -95,7 +95,8 @@ fn turn_in_span(
     until: u32,
 )
     requires { ⌜ (i < 256) × (until ≤ 50) × Between (now net) 65535 4294901760 ⌝ }
-    ensures { λ r. ⌜ Turned (now (net .entry)) gains gives mark (getD (now (rows .entry)) i []) first until (now (net .exit)) ⌝ }
+    ensures { λ r. ⌜ Applied (now (net .entry)) gains gives mark (getD (now (rows .entry)) i []) first until
+        (now (net .exit)) ⌝ }
 {
     let from = byte(mark[1]);
     let till = byte(mark[2]);
@@ -108,9 +109,9 @@ fn turn_in_span(
     }
 }
 
-// Turns a net by a record that gains it power, or gives its power away. A record in force at all counted steps has its whole
-// row gained or given; one that ends before them moves nothing there, and neither does one that both gains and gives.
-pub(crate) fn turn(
+// Applies a record to a net: its powers are gained, or given. A record in force at all counted steps has its whole row
+// gained or given; one that ends before them moves nothing there, and neither does one that both gains and gives.
+pub(crate) fn apply_record(
     net: &mut [u32; 50],
     gains: bool,
     gives: bool,
@@ -121,7 +122,8 @@ pub(crate) fn turn(
     until: u32,
 )
     requires { ⌜ (i < 256) × (until ≤ 50) × Between (now net) 65535 4294901760 ⌝ }
-    ensures { λ r. ⌜ Turned (now (net .entry)) gains gives mark (getD (now (rows .entry)) i []) first until (now (net .exit)) ⌝ }
+    ensures { λ r. ⌜ Applied (now (net .entry)) gains gives mark (getD (now (rows .entry)) i []) first until
+        (now (net .exit)) ⌝ }
 {
     if gains == gives {
         return;
@@ -135,5 +137,5 @@ pub(crate) fn turn(
         move_row(net, gains, rows, i);
         return;
     }
-    turn_in_span(net, gains, gives, mark, rows, i, first, until)
+    apply_in_span(net, gains, gives, mark, rows, i, first, until)
 }

@@ -10,18 +10,11 @@ ghost use Rattle.judging.specs.Nets.{most};
 ghost use Rattle.judging.specs.Steps.{belowAt, stepFits, netTests};
 use crate::nets::BASE;
 use crate::nets::Nets;
-use refusals::Refusal;
 use refusals::StateRefusal;
 use refusals::Verdict;
+use refusals::trying::try_at;
 use std::num::wrapping_sub_u32;
 use tables::records::wide;
-
-// A refusal that comes from the state, with its place.
-pub fn no(r: StateRefusal, place: u32) -> Verdict
-    ensures { λ v. ⌜ v ≡ Verdict.No (Refusal.State r place) ⌝ }
-{
-    Verdict::No(Refusal::State(r, place))
-}
 
 // The first of the steps from `first` to before `until` at which one number is below another; `until` where there is none.
 fn first_below(left: [u32; 50], right: [u32; 50], first: u32, until: u32) -> u32
@@ -78,29 +71,21 @@ fn failing_verdict(
     first: u32,
     until: u32,
 ) -> Verdict
-    requires { ⌜ (first ≤ until) × (until ≤ 50) × (ceders ≤ 65535) × (acquirers ≤ 65535) × ((s : ℕ) → s < 50 → getD (nets .acquirer) s 0 ≤ most) ⌝ }
+    requires { ⌜ (first ≤ until) × (until ≤ 50) × (ceders ≤ 65535) × (acquirers ≤ 65535)
+        × ((s : ℕ) → s < 50 → getD (nets .acquirer) s 0 ≤ most) ⌝ }
     ensures { λ r. ⌜ r ≡ firstMet (netTests nets ps ceders acquirers first until) ⌝ }
 {
     let ceder = nets.ceder;
     let acquirer = nets.acquirer;
     let taken = sums(acquirer, ps);
     let s = first_below(ceder, plus(BASE, ps), first, until);
-    if s < until {
-        return no(StateRefusal::CederBelow, s);
-    }
+    let v = try_at(Verdict::Pass, s < until, StateRefusal::CederBelow, s);
     let s = first_below([BASE + acquirers; 50], taken, first, until);
-    if s < until {
-        return no(StateRefusal::AcquirerAbove, s);
-    }
+    let v = try_at(v, s < until, StateRefusal::AcquirerAbove, s);
     let s = first_below(plus(BASE + ceders, ps), ceder, first, until);
-    if s < until {
-        return no(StateRefusal::CederAbove, s);
-    }
+    let v = try_at(v, s < until, StateRefusal::CederAbove, s);
     let s = first_below(taken, [BASE; 50], first, until);
-    if s < until {
-        return no(StateRefusal::AcquirerBelow, s);
-    }
-    Verdict::Pass
+    try_at(v, s < until, StateRefusal::AcquirerBelow, s)
 }
 
 // Whether a number is one of the `more + 1` numbers from `least` on, by one comparison: below `least` the difference wraps.
@@ -129,8 +114,11 @@ fn all_fit(
     first: u32,
     until: u32,
 ) -> bool
-    requires { ⌜ (until ≤ 50) × (ceders ≤ 65535) × (acquirers ≤ 65535) × ((s : ℕ) → s < 50 → getD (now acquirer) s 0 ≤ most) ⌝ }
-    ensures { λ r. ⌜ (r ≡ true → (s : ℕ) → first ≤ s → s < until → stepFits (getD (now (ceder .entry)) s 0) (getD (now (acquirer .entry)) s 0) (getD (now (ps .entry)) s 0) ceders acquirers ≡ true) ⌝ }
+    requires { ⌜ (until ≤ 50) × (ceders ≤ 65535) × (acquirers ≤ 65535)
+        × ((s : ℕ) → s < 50 → getD (now acquirer) s 0 ≤ most) ⌝ }
+    ensures { λ r. ⌜ (r ≡ true → (s : ℕ) → first ≤ s → s < until → stepFits
+        (getD (now (ceder .entry)) s 0) (getD (now (acquirer .entry)) s 0) (getD (now (ps .entry)) s 0)
+        ceders acquirers ≡ true) ⌝ }
 {
     let mut failed = false;
     let mut s = first;
@@ -152,8 +140,11 @@ pub fn step_verdict(
     first: u32,
     until: u32,
 ) -> Verdict
-    requires { ⌜ (first ≤ until) × (until ≤ 50) × (ceders ≤ 65535) × (acquirers ≤ 65535) × ((s : ℕ) → s < 50 → getD (now acquirer) s 0 ≤ most) ⌝ }
-    ensures { λ r. ⌜ r ≡ firstMet (netTests (record { ceder = now (ceder .entry); acquirer = now (acquirer .entry) }) (now (ps .entry)) ceders acquirers first until) ⌝ }
+    requires { ⌜ (first ≤ until) × (until ≤ 50) × (ceders ≤ 65535) × (acquirers ≤ 65535)
+        × ((s : ℕ) → s < 50 → getD (now acquirer) s 0 ≤ most) ⌝ }
+    ensures { λ r. ⌜ r ≡ firstMet (netTests
+        (record { ceder = now (ceder .entry); acquirer = now (acquirer .entry) }) (now (ps .entry))
+        ceders acquirers first until) ⌝ }
 {
     if all_fit(ceder, acquirer, ps, ceders, acquirers, first, until) {
         return Verdict::Pass;

@@ -6,7 +6,7 @@ use Prim.Native.Nat.{ℕ}
 use Rattle.lists.specs.Searches.{same, placeOf, firstFrom}
 use Rattle.calendar.specs.Dates.{date, tomorrow, number, valid, monthLength, leapDays, beforeYear, beforeMonth}
 use Rattle.calendar.specs.Steps.{stepsOf, lastSunday}
-use Rattle.calendar.specs.Clocks.{firstCounted}
+use Rattle.calendar.specs.Clocks.{firstCounted, replacesWhole, loadable}
 use Rattle.refusals.specs.Tests.{input, state}
 use Rattle.refusals.specs.declared.Verdict.the-variants.{Pass}
 use Rattle.refusals.specs.declared.InputRefusal.the-variants.{Range}
@@ -15,8 +15,8 @@ use Rattle.notification.specs.Forms.{isCode, isCategory, categoryText, inPlaces
 use Rattle.ledger.specs.Statuses.{answered, validated}
 use Rattle.ledger.specs.Call.{enrolActor}
 use Rattle.ledger.specs.Ledger.{Ledger, actorAt, categoryAt, hasLoad, loaded, approved, moved, power, acquired, ceded, gained, engagement}
-use Rattle.ledger.specs.Filing.{keyOf, cederBelow, acquirerAbove, cederAbove, acquirerBelow, filingTests, samePowers, pairs, obsoletes, nextId, filed}
-use Rattle.ledger.specs.Calls.{actorTests, categoryTests, loadRanged, loadable, loadTests, verdictOf, fileNote, effect, stepNote, step}
+use Rattle.ledger.specs.Filing.{keyOf, cederBelow, acquirerAbove, cederAbove, acquirerBelow, samePowers, pairs, nextId, filed, partyTests, dayTests, loadTest, stepTests, placeTests}
+use Rattle.ledger.specs.Calls.{actorTests, categoryTests, loadRanged, loadTests, verdictOf, effect, stepNote, step, fileAt}
 use Rattle.ledger.specs.Asking.{engagementTests, engagedAt, askEngagement, recordAt, recordTests, notShown, askRecord, idsOf, historyTests, askHistory, historyIn}
 use Rattle.ledger.specs.declared.Engaged.{Engaged}
 use Rattle.ledger.specs.declared.Engaged.the-variants as Engaged
@@ -71,7 +71,7 @@ pub record Answers : Type 0 where
   pub listed-unknown : askHistory held stranger 0 ≡ Listed.Refused (state ActorUnknown)
 
 pub answers : Answers
-unfolding eic enters noteWith note exchange three cededOn held engaged exchanged same placeOf firstFrom date tomorrow number valid monthLength leapDays beforeYear beforeMonth stepsOf lastSunday firstCounted isCode isCategory categoryText inPlaces actorAt categoryAt hasLoad loaded approved moved power acquired ceded gained engagement keyOf cederBelow acquirerAbove cederAbove acquirerBelow filingTests samePowers pairs obsoletes nextId filed actorTests categoryTests loadRanged loadable loadTests verdictOf fileNote effect stepNote step engagementTests engagedAt askEngagement recordAt recordTests askRecord idsOf historyTests askHistory historyIn
+unfolding eic enters noteWith note exchange three cededOn held engaged exchanged same placeOf firstFrom date tomorrow number valid monthLength leapDays beforeYear beforeMonth stepsOf lastSunday firstCounted isCode isCategory categoryText inPlaces actorAt categoryAt hasLoad loaded approved moved power acquired ceded gained engagement keyOf cederBelow acquirerAbove cederAbove acquirerBelow partyTests dayTests loadTest stepTests placeTests samePowers pairs replacesWhole nextId filed actorTests categoryTests loadRanged loadable loadTests verdictOf fileAt effect stepNote step engagementTests engagedAt askEngagement recordAt recordTests askRecord idsOf historyTests askHistory historyIn
 answers =
     record {
       engagement = (refl, refl);

@@ -8,10 +8,11 @@ use Rattle.lists.specs.Searches.{same, placeOf}
 use Rattle.calendar.specs.Dates.{date, tomorrow, number, valid, monthLength, leapDays, beforeYear, beforeMonth}
 use Rattle.calendar.specs.Steps.{stepsOf, lastSunday}
 use Rattle.notification.specs.Forms.{isCode, isCategory, inPlaces}
+use Rattle.calendar.specs.Clocks.{loadable}
 use Rattle.ledger.specs.Call.{Call, enrolActor, enrolCategory, load, advance}
 use Rattle.ledger.specs.Ledger.{Ledger, actorAt, categoryAt, hasLoad}
 use Rattle.ledger.specs.Filing.{nobody}
-use Rattle.ledger.specs.Calls.{moment, actorTests, categoryTests, loadRanged, loadable, loadTests, verdictOf, effect, step}
+use Rattle.ledger.specs.Calls.{moment, actorTests, categoryTests, loadRanged, loadTests, verdictOf, effect, step}
 use Rattle.ledger.specs.declared.Answer.{Answer}
 use Rattle.ledger.specs.declared.Answer.the-variants.{Moved, Held}
 use Rattle.ledger.proofs.Examples.{eic, first, second, category, plainDay, shortDay, longDay}

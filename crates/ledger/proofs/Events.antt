@@ -17,14 +17,14 @@ use Rattle.refusals.specs.Tests.{decide}
 use Rattle.refusals.specs.declared.Verdict.{Verdict}
 use Rattle.refusals.specs.declared.Verdict.the-variants.{Pass, No}
 use Rattle.notification.specs.Forms.{categoryText, inPlaces, places}
-use Rattle.notification.specs.Reading.{readFile}
 use Rattle.notification.specs.declared.Notification.{Notification}
+use Rattle.ledger.specs.declared.Entry.{Entry}
 use Rattle.ledger.specs.Statuses.{validated}
-use Rattle.ledger.specs.Call.{Call, enrolActor, enrolCategory, load, file, advance}
+use Rattle.ledger.specs.Call.{Form, readForm, Call, enrolActor, enrolCategory, load, file, advance}
 use Rattle.ledger.specs.Ledger as Held
 use Rattle.ledger.specs.Ledger.{Ledger, actorAt, categoryAt, loaded, approved, power}
 use Rattle.ledger.specs.Filing.{keyOf, pairs, statusBy}
-use Rattle.ledger.specs.Calls.{verdictOf, fileNote, effect, refusedBy, step}
+use Rattle.ledger.specs.Calls.{verdictOf, effect, refusedBy, step, fileAt}
 use Rattle.ledger.specs.Reading.{Event, under, actorsOf, categoriesOf, clockOf, loadedOf, approvedOf, powerOf}
 use Rattle.ledger.specs.Whole.{keyBy}
 use Rattle.ledger.proofs.Passed.{LoadOk, FilingOk, actor-ok, load-ok, filing-ok}
@@ -97,11 +97,11 @@ key-under l submitter n ok c a z d =
     rw (actor-is (l .actors) (n .key .ceder) c (ok .ceder), actor-is (l .actors) (n .key .acquirer) a (ok .acquirer), category-is (l .categories) (categoryText (n .key .category)) z (ok .category), eqb-sym d (n .key .day))
 
 module _ (l : Ledger) (h : List Event) (r : Reads l h) where
-  reads-file : (submitter name body : List ℕ) → FilingOk l submitter (readFile name body .notification) → Spans l →
-      Reads (effect l (file submitter name body) .ledger) (event (file submitter name body) l ∷ h)
-  unfolding effect fileNote event actorsOf categoriesOf clockOf loadedOf approvedOf powerOf
-  reads-file submitter name body ok spans =
-      let n = readFile name body .notification in
+  reads-file : (entry : Entry) (submitter : List ℕ) (form : Form) → FilingOk l submitter (readForm submitter form .notification) → Spans l →
+      Reads (effect l (file entry submitter form) .ledger) (event (file entry submitter form) l ∷ h)
+  unfolding effect fileAt event actorsOf categoriesOf clockOf loadedOf approvedOf powerOf
+  reads-file entry submitter form ok spans =
+      let n = readForm submitter form .notification in
       let k = keyOf l n in
       let by = actorAt (l .actors) submitter in
       let paired = pairs by k (n .powers) (l .records) in
@@ -135,8 +135,9 @@ reads-decided l h (enrolCategory text) Pass e p t r = reads-category l h r p tex
 reads-decided l h (load a z d m ps) Pass e p t r =
     let ok = load-ok l a z d m ps e in
     reads-load l h r a z d m ps ok (omega (arith, ok .per-step, steps-small d))
-reads-decided l h (file u name body) Pass e p t r =
-    reads-file l h r u name body (filing-ok l u (readFile name body .notification) (file-passed (readFile name body .verdict) _ e)) t
+reads-decided l h (file entry u form) Pass e p t r =
+    let x = readForm u form in
+    reads-file l h r entry u form (filing-ok l entry u (x .notification) (file-passed (x .verdict) _ e)) t
 reads-decided l h (advance d m) Pass e p t r = reads-advance l h r d m
 reads-decided l h c (No f) e p t r =
     record {

@@ -7,17 +7,18 @@ use lib.ListN.{replicate}
 use Rattle.lists.specs.Searches.{same, placeOf, firstFrom}
 use Rattle.calendar.specs.Dates.{date, tomorrow, number, valid, monthLength, leapDays, beforeYear, beforeMonth}
 use Rattle.calendar.specs.Steps.{stepsOf, lastSunday}
-use Rattle.calendar.specs.Clocks.{firstCounted}
+use Rattle.calendar.specs.Clocks.{firstCounted, replacesWhole, loadable}
 use Rattle.calendar.proofs.Examples.{Days, days}
 use Rattle.refusals.specs.declared.Refusal.the-variants.{State}
 use Rattle.refusals.specs.declared.StateRefusal.the-variants.{NoStep, CederAbove, AcquirerBelow}
 use Rattle.notification.specs.Forms.{isCode, isCategory, categoryText, inPlaces}
 use Rattle.notification.specs.declared.Notification.{Notification}
+use Rattle.ledger.specs.declared.Entry.the-variants.{SevenDays}
 use Rattle.ledger.specs.Statuses.{created}
 use Rattle.ledger.specs.Call.{Call, enrolActor, enrolCategory, load, advance}
 use Rattle.ledger.specs.Ledger.{Ledger, fresh, actorAt, categoryAt, hasLoad, loaded, approved, moved, power, acquired, ceded, gained, engagement}
-use Rattle.ledger.specs.Filing.{keyOf, cederBelow, acquirerAbove, cederAbove, acquirerBelow, filingTests, samePowers, pairs, obsoletes, nextId, filed}
-use Rattle.ledger.specs.Calls.{actorTests, categoryTests, loadRanged, loadable, loadTests, verdictOf, fileNote, effect, stepNote, step}
+use Rattle.ledger.specs.Filing.{keyOf, cederBelow, acquirerAbove, cederAbove, acquirerBelow, samePowers, pairs, nextId, filed, partyTests, dayTests, loadTest, stepTests, placeTests}
+use Rattle.ledger.specs.Calls.{actorTests, categoryTests, loadRanged, loadTests, verdictOf, effect, stepNote, step, fileAt}
 use Rattle.ledger.specs.Asking.{engagedAt}
 use Rattle.ledger.specs.Whole.{after}
 use Rattle.ledger.specs.declared.Answer.{Answer}
@@ -53,7 +54,7 @@ note c a day p = noteWith c a day (replicate (stepsOf day) p)
 
 -- both parties file it
 unfoldable pub exchange : List ℕ → List ℕ → ℕ → ℕ → Ledger → Ledger
-exchange c a day p l = stepNote (stepNote l c (note c a day p) .ledger) a (note c a day p) .ledger
+exchange c a day p l = stepNote (stepNote l SevenDays c (note c a day p) .ledger) SevenDays a (note c a day p) .ledger
 
 -- WHAT A FILING IS ANSWERED AT A MINUTE OF ITS DAY
 
@@ -73,12 +74,13 @@ two day minute =
     after fresh (enrolCategory category ∷ enters first day 60 100 ++ enters second day 0 100 ++ (advance day minute ∷ []))
 
 unfoldable pub answerAt : ℕ → ℕ → Answer
-answerAt day minute = stepNote (two day minute) first (note first second day 40) .answer
+answerAt day minute = stepNote (two day minute) SevenDays first (note first second day 40) .answer
 
 -- the acquirer's answer where its powers are the ceder's but at step 0
 unfoldable pub butAtZero : ℕ → Answer
 butAtZero minute =
-    stepNote (stepNote (two plainDay minute) first (note first second plainDay 40) .ledger) second (noteWith first second plainDay (0 ∷ replicate 47 40)) .answer
+    stepNote (stepNote (two plainDay minute) SevenDays first (note first second plainDay 40) .ledger) SevenDays second
+    (noteWith first second plainDay (0 ∷ replicate 47 40)) .answer
 
 unfoldable pub noStep : Answer
 noStep = Refused (State NoStep 0)
@@ -99,7 +101,7 @@ unfoldable pub acquiredFrom : List ℕ → Ledger
 acquiredFrom other = exchange other first plainDay 35 (exchange first second plainDay 40 (three 60))
 
 unfoldable pub replacing : Ledger → Answer
-replacing l = stepNote l first (note first second plainDay 5) .answer
+replacing l = stepNote l SevenDays first (note first second plainDay 5) .answer
 
 -- the engagements of the three
 unfoldable pub each : Ledger → List ℕ
@@ -130,7 +132,7 @@ pub record Edge : Type 0 where
   pub uncounted-differs : butAtZero 942 ≡ Filed 2 created 33
 
 pub edge : Edge
-unfolding eic enters noteWith note exchange two answerAt butAtZero noStep three cededOn acquiredFrom replacing each same placeOf firstFrom date tomorrow number valid monthLength leapDays beforeYear beforeMonth stepsOf lastSunday firstCounted isCode isCategory categoryText inPlaces actorAt categoryAt hasLoad loaded approved moved power acquired ceded gained engagement keyOf cederBelow acquirerAbove cederAbove acquirerBelow filingTests samePowers pairs obsoletes nextId filed actorTests categoryTests loadRanged loadable loadTests verdictOf fileNote effect stepNote step engagedAt
+unfolding eic enters noteWith note exchange two answerAt butAtZero noStep three cededOn acquiredFrom replacing each same placeOf firstFrom date tomorrow number valid monthLength leapDays beforeYear beforeMonth stepsOf lastSunday firstCounted isCode isCategory categoryText inPlaces actorAt categoryAt hasLoad loaded approved moved power acquired ceded gained engagement keyOf cederBelow acquirerAbove cederAbove acquirerBelow partyTests dayTests loadTest stepTests placeTests samePowers pairs replacesWhole nextId filed actorTests categoryTests loadRanged loadable loadTests verdictOf fileAt effect stepNote step engagedAt
 edge =
     record {
       days = days;

@@ -7,15 +7,16 @@ use lib.ListN.{replicate}
 use Rattle.lists.specs.Searches.{same, placeOf, firstFrom}
 use Rattle.calendar.specs.Dates.{date, tomorrow, number, valid, monthLength, leapDays, beforeYear, beforeMonth}
 use Rattle.calendar.specs.Steps.{stepsOf, lastSunday}
-use Rattle.calendar.specs.Clocks.{firstCounted}
+use Rattle.calendar.specs.Clocks.{firstCounted, replacesWhole, loadable}
 use Rattle.refusals.specs.Numbers as Numbers
 use Rattle.notification.specs.Forms.{isCode, isCategory, categoryText, inPlaces}
 use Rattle.notification.specs.declared.Notification.{Notification}
+use Rattle.ledger.specs.declared.Entry.the-variants.{SevenDays}
 use Rattle.ledger.specs.Statuses.{created}
 use Rattle.ledger.specs.Call.{enrolActor, enrolCategory, load, advance}
 use Rattle.ledger.specs.Ledger.{Ledger, fresh, actorAt, categoryAt, hasLoad, loaded, approved, moved, power, acquired, ceded, gained, engagement}
-use Rattle.ledger.specs.Filing.{keyOf, cederBelow, acquirerAbove, cederAbove, acquirerBelow, filingTests, samePowers, pairs, obsoletes, nextId, filed}
-use Rattle.ledger.specs.Calls.{withRecords, actorTests, categoryTests, loadRanged, loadable, loadTests, verdictOf, fileNote, effect, stepNote, step}
+use Rattle.ledger.specs.Filing.{keyOf, cederBelow, acquirerAbove, cederAbove, acquirerBelow, samePowers, pairs, nextId, filed, partyTests, dayTests, loadTest, stepTests, placeTests}
+use Rattle.ledger.specs.Calls.{withRecords, actorTests, categoryTests, loadRanged, loadTests, verdictOf, effect, stepNote, step, fileAt}
 use Rattle.ledger.specs.Asking.{noRecord}
 use Rattle.ledger.specs.Whole.{after}
 use Rattle.ledger.specs.declared.Answer.{Answer}
@@ -31,11 +32,11 @@ refusal (Refused r) = (Numbers.numberOf r, Numbers.placeOf r)
 
 -- an actor files one power for every step
 unfoldable pub files : Ledger → List ℕ → List ℕ → List ℕ → ℕ → ℕ → Answer
-files l by ceder acquirer day p = stepNote l by (note ceder acquirer day p) .answer
+files l by ceder acquirer day p = stepNote l SevenDays by (note ceder acquirer day p) .answer
 
 -- the ceder files powers for its exchange with the second actor
 unfoldable pub filesPowers : Ledger → List ℕ → Answer
-filesPowers l ps = stepNote l first (noteWith first second plainDay ps) .answer
+filesPowers l ps = stepNote l SevenDays first (noteWith first second plainDay ps) .answer
 
 -- the first actor with 60 of 100 for a day, the second with 0 of 100, by their contracts; the clock stands at the start of day 10
 unfoldable pub contracted : ℕ × ℕ → ℕ × ℕ → ℕ → Ledger
@@ -86,7 +87,7 @@ pub record Filings : Type 0 where
   -- "22: submitter .. not enrolled", before "24: submitter is neither party"
   pub submitter-unknown : refusal (files (two plainDay 0) third first second plainDay 40) ≡ (22, 0)
   -- "23: category not enrolled"
-  pub category-unknown : refusal (stepNote (two plainDay 0) first otherCategory .answer) ≡ (23, 0)
+  pub category-unknown : refusal (stepNote (two plainDay 0) SevenDays first otherCategory .answer) ≡ (23, 0)
   -- "24: submitter is neither party": ceder and acquirer are accepted
   pub neither-party : refusal (files (three 100) third first second plainDay 40) ≡ (24, 0)
   pub by-ceder : files (three 100) first first second plainDay 40 ≡ Filed 1 created 0
@@ -126,7 +127,7 @@ pub record Filings : Type 0 where
   pub record-257 : refusal (files (holding 256) first first second plainDay 40) ≡ (36, 0)
 
 pub filings : Filings
-unfolding eic enters noteWith note two three files filesPowers contracted inDays falling holding otherCategory same placeOf firstFrom date tomorrow number valid monthLength leapDays beforeYear beforeMonth stepsOf lastSunday firstCounted isCode isCategory categoryText inPlaces actorAt categoryAt hasLoad loaded approved moved power acquired ceded gained engagement keyOf cederBelow acquirerAbove cederAbove acquirerBelow filingTests samePowers pairs obsoletes nextId filed actorTests categoryTests loadRanged loadable loadTests verdictOf fileNote effect stepNote step
+unfolding eic enters noteWith note two three files filesPowers contracted inDays falling holding otherCategory same placeOf firstFrom date tomorrow number valid monthLength leapDays beforeYear beforeMonth stepsOf lastSunday firstCounted isCode isCategory categoryText inPlaces actorAt categoryAt hasLoad loaded approved moved power acquired ceded gained engagement keyOf cederBelow acquirerAbove cederAbove acquirerBelow partyTests dayTests loadTest stepTests placeTests samePowers pairs replacesWhole nextId filed actorTests categoryTests loadRanged loadable loadTests verdictOf fileAt effect stepNote step
 filings =
     record {
       ceder-unknown = refl;

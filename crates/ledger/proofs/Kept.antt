@@ -8,15 +8,15 @@ use lib.ListN.{replicate}
 use Rattle.lists.specs.Searches.{same, placeOf, firstFrom}
 use Rattle.calendar.specs.Dates.{date, tomorrow, number, valid, monthLength, leapDays, beforeYear, beforeMonth}
 use Rattle.calendar.specs.Steps.{stepsOf, lastSunday}
-use Rattle.calendar.specs.Clocks.{firstCounted}
+use Rattle.calendar.specs.Clocks.{firstCounted, replacesWhole, loadable}
 use Rattle.calendar.specs.declared.clock.Clock.{Clock}
 use Rattle.refusals.proofs.Tests.{decided}
 use Rattle.notification.specs.Forms.{isCode, isCategory, categoryText, inPlaces}
 use Rattle.ledger.specs.Statuses.{answered, validated, updated, obsolete}
 use Rattle.ledger.specs.Call.{Call, enrolActor, enrolCategory, load, advance}
 use Rattle.ledger.specs.Ledger.{Key, Rec, Ledger, actorAt, categoryAt, hasLoad, loaded, approved, moved, power, acquired, ceded, gained, engagement}
-use Rattle.ledger.specs.Filing.{keyOf, cederBelow, acquirerAbove, cederAbove, acquirerBelow, filingTests, samePowers, pairs, obsoletes, ruleThree, changed, nextId, filed}
-use Rattle.ledger.specs.Calls.{Outcome, moment, actorTests, categoryTests, loadRanged, loadable, loadTests, verdictOf, fileNote, effect, refusedBy, stepNote, step}
+use Rattle.ledger.specs.Filing.{keyOf, cederBelow, acquirerAbove, cederAbove, acquirerBelow, samePowers, pairs, ruleThree, changed, nextId, filed, partyTests, dayTests, loadTest, stepTests, placeTests}
+use Rattle.ledger.specs.Calls.{Outcome, moment, actorTests, categoryTests, loadRanged, loadTests, verdictOf, effect, refusedBy, stepNote, step, fileAt}
 use Rattle.ledger.specs.Asking.{engagedAt}
 use Rattle.ledger.proofs.Moving.{part-changed}
 use Rattle.ledger.proofs.Examples.{eic, first, second, category, plainDay, enters, noteWith, note, exchange, two, three}
@@ -95,7 +95,7 @@ pub record Replaced : Type 0 where
   pub day-alone : ruleThree (moment 0 0) key (recordOf 2 1 validated 5 48 40) ≡ recordOf 2 1 obsolete 5 48 40
 
 pub replaced : Replaced
-unfolding eic enters noteWith note exchange two three recordOf replacedAt dayAhead sameStep laterStep pair same placeOf firstFrom date tomorrow number valid monthLength leapDays beforeYear beforeMonth stepsOf lastSunday firstCounted isCode isCategory categoryText inPlaces actorAt categoryAt hasLoad loaded approved moved power acquired ceded gained engagement keyOf cederBelow acquirerAbove cederAbove acquirerBelow filingTests samePowers pairs obsoletes nextId filed actorTests categoryTests loadRanged loadable loadTests verdictOf fileNote effect stepNote step engagedAt
+unfolding eic enters noteWith note exchange two three recordOf replacedAt dayAhead sameStep laterStep pair same placeOf firstFrom date tomorrow number valid monthLength leapDays beforeYear beforeMonth stepsOf lastSunday firstCounted isCode isCategory categoryText inPlaces actorAt categoryAt hasLoad loaded approved moved power acquired ceded gained engagement keyOf cederBelow acquirerAbove cederAbove acquirerBelow partyTests dayTests loadTest stepTests placeTests samePowers pairs replacesWhole nextId filed actorTests categoryTests loadRanged loadable loadTests verdictOf fileAt effect stepNote step engagedAt
 replaced =
     record {
       day-ahead = refl;

@@ -1,7 +1,6 @@
 -- What is true of the ledger.
 pub mod Passed
 pub mod Names
-pub mod Clocks
 pub mod Loads
 pub mod Moving
 pub mod Powers

@@ -10,12 +10,12 @@ use lib.ListN.{getD}
 use borrow.Author.Tests.{leb-false, eqb-true, le-ltb, lt-ltb, lt-leb, eq-eqb}
 use Rattle.lists.proofs.Tests.{both-true, left-false}
 use Rattle.calendar.specs.Steps.{stepsOf}
-use Rattle.calendar.specs.Clocks.{firstCounted}
+use Rattle.calendar.specs.Clocks.{firstCounted, replacesWhole}
 use Rattle.calendar.specs.declared.clock.Clock.{Clock}
 use Rattle.ledger.specs.Statuses.{created, answered, deleted, validated, updated, obsolete}
 use Rattle.ledger.specs.Ledger.{Key, Rec, moves, movedBy, underKey}
-use Rattle.ledger.specs.Filing.{withStatus, deletes, ruleOne, answers, ruleTwo, samePowers, replaces, obsoletes, ruleThree, changed}
-use Rattle.ledger.proofs.Clocks.{obsoletes-first}
+use Rattle.ledger.specs.Filing.{withStatus, deletes, ruleOne, answers, ruleTwo, samePowers, replaces, ruleThree, changed}
+use Rattle.calendar.proofs.Clocks.{whole-first}
 
 -- ---- two keys are the same, by their four fields; a record is under a key where its own is the same
 
@@ -131,7 +131,7 @@ module _ (clock : Clock) (k : Key) (reached : clock .day ≤ k .day) (counted : 
       (eqb-true (r .status) validated (p .0), eqKey-same (r .key) k (p .1))
 
   span-three : (r : Rec) → Span clock r → Span clock (ruleThree clock k r)
-  span-three r sp = go (replaces k r) (obsoletes clock k r) refl
+  span-three r sp = go (replaces k r) (replacesWhole clock (r .from) (k .day)) refl
     where
       go : (b o : Bool) → replaces k r ≡ b → Span clock (replaced clock k b o r)
       go true true e = record { whole = λ x. absurd (omega arith); past = λ x h. absurd (omega arith) }
@@ -141,7 +141,7 @@ module _ (clock : Clock) (k : Key) (reached : clock .day ≤ k .day) (counted : 
 
   -- under the key, from the new from-step on, it moves nothing
   given-replaced : (s : ℕ) (r : Rec) → Span clock r → firstCounted clock (k .day) ≤ s → given k s (ruleThree clock k r) ≡ 0
-  given-replaced s r sp h = go (replaces k r) (obsoletes clock k r) refl
+  given-replaced s r sp h = go (replaces k r) (replacesWhole clock (r .from) (k .day)) refl
     where
       other : (t p : Bool) → underKey k r ≡ t → eqb (r .status) updated ≡ p → replaces k r ≡ false → given k s r ≡ 0
       other false p u e f = given-other k s r u
@@ -159,7 +159,7 @@ module _ (clock : Clock) (k : Key) (reached : clock .day ≤ k .day) (counted : 
   -- elsewhere it moves what it did
   given-kept : (k' : Key) (s : ℕ) (r : Rec) → Span clock r → (leb (firstCounted clock (k .day)) s && eqKey k' k) ≡ false →
       given k' s (ruleThree clock k r) ≡ given k' s r
-  given-kept k' s r sp e = go (replaces k r) (obsoletes clock k r) (underKey k' r) refl refl refl
+  given-kept k' s r sp e = go (replaces k r) (replacesWhole clock (r .from) (k .day)) (underKey k' r) refl refl refl
     where
       early : replaces k r ≡ true → underKey k' r ≡ true → s < firstCounted clock (k .day)
       early p u =
@@ -173,10 +173,10 @@ module _ (clock : Clock) (k : Key) (reached : clock .day ≤ k .day) (counted : 
           let d : stepsOf (r .key .day) ≡ stepsOf (k .day) = ap (λ x. stepsOf (x .day)) (v .1) in
           rw (lt-ltb s (firstCounted clock (k .day)) h, v .0, lt-ltb s (r .until) (omega (arith, sp .whole (v .0))))
 
-      go : (b o t : Bool) → replaces k r ≡ b → obsoletes clock k r ≡ o → underKey k' r ≡ t → given k' s (replaced clock k b o r) ≡ given k' s r
+      go : (b o t : Bool) → replaces k r ≡ b → replacesWhole clock (r .from) (k .day) ≡ o → underKey k' r ≡ t → given k' s (replaced clock k b o r) ≡ given k' s r
       go true true true p q u =
           given-still k' s (withStatus obsolete (r .until) r) refl ∙
-          sym (given-still k' s r (moves-early s r (omega (arith, early p u, obsoletes-first clock k r q))))
+          sym (given-still k' s r (moves-early s r (omega (arith, early p u, whole-first clock (r .from) (k .day) q))))
       go true false true p q u = ap (λ m. cond (underKey k' r) (cond m (getD (r .powers) s 0) 0) 0) (updates p u)
       go true true false p q u = given-other k' s (withStatus obsolete (r .until) r) u ∙ sym (given-other k' s r u)
       go true false false p q u = given-other k' s (withStatus updated (firstCounted clock (k .day)) r) u ∙ sym (given-other k' s r u)
@@ -202,7 +202,7 @@ part-changed part same paired clock by k ps r = go paired
     go true =
         let x = ruleOne by k r in
         let y = ruleTwo by k ps x in
-        three (replaces k y) (obsoletes clock k y) y ∙ restates (answers by k ps x) answered x ∙ restates (deletes by k r) deleted r
+        three (replaces k y) (replacesWhole clock (y .from) (k .day)) y ∙ restates (answers by k ps x) answered x ∙ restates (deletes by k r) deleted r
     go false = restates (deletes by k r) deleted r
 
 -- no rule changes a record's key

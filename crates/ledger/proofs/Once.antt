@@ -11,10 +11,11 @@ use borrow.Author.Tests.{leb-true, lt-ltb, le-leb}
 use Rattle.lists.proofs.Tests.{by-test, and-left, and-right, and-true}
 use Rattle.calendar.specs.declared.clock.Clock.{Clock}
 use Rattle.notification.specs.declared.Notification.{Notification}
+use Rattle.calendar.specs.Clocks.{replacesWhole}
 use Rattle.ledger.specs.Call.{Call}
 use Rattle.ledger.specs.Ledger.{Key, Rec, Ledger, fresh, actorAt}
-use Rattle.ledger.specs.Filing.{withStatus, deletes, ruleOne, answers, ruleTwo, replaces, obsoletes, ruleThree, changed, pairs, statusBy, nextId, born, filed, keyOf}
-use Rattle.ledger.specs.Calls.{fileNote, step}
+use Rattle.ledger.specs.Filing.{withStatus, deletes, ruleOne, answers, ruleTwo, replaces, ruleThree, changed, pairs, statusBy, nextId, born, filed, keyOf}
+use Rattle.ledger.specs.Calls.{fileNote, step, fileAt}
 use Rattle.ledger.specs.Asking.{party, idsOf, historyOf}
 use Rattle.ledger.specs.Whole.{after}
 use Rattle.ledger.specs.Once.{rising, EachOnce}
@@ -38,7 +39,7 @@ id-changed paired clock by k ps r = go paired
     go : (paired : Bool) → changed paired clock by k ps r .id ≡ r .id
     go true =
         let x = ruleTwo by k ps (ruleOne by k r) in
-        one (replaces k x) (cond (obsoletes clock k x) _ _) x (one (obsoletes clock k x) _ _ second second) second
+        one (replaces k x) (cond (replacesWhole clock (x .from) (k .day)) _ _) x (one (replacesWhole clock (x .from) (k .day)) _ _ second second) second
     go false = first
 
 -- ---- the ids of records, the newest first: as many as there are, and so on down
@@ -52,7 +53,7 @@ numbered-map f e none = none
 numbered-map f e (more {r} {rs} i n) = more (e r ∙ i ∙ ap suc (sym (length-map rs f))) (numbered-map f e n)
 
 numbered-filed : (l : Ledger) (u : List ℕ) (note : Notification) → Numbered (l .records) → Numbered (fileNote l u note .ledger .records)
-unfolding fileNote filed nextId
+unfolding fileAt filed nextId
 numbered-filed l u note n =
     let k = keyOf l note in
     let by = actorAt (l .actors) u in

@@ -16,8 +16,10 @@ use Rattle.refusals.proofs.Tables.{rows, unplaced}
 use Rattle.notification.specs.Reading.{fileTests, noteIn, accepted, refused, readFile}
 use Rattle.notification.specs.declared.Notification.{Notification}
 use Rattle.ledger.specs.Ledger.{Ledger}
-use Rattle.ledger.specs.Call.{file}
-use Rattle.ledger.specs.Filing.{keyOf, cederBelow, acquirerAbove, cederAbove, acquirerBelow, filingTests}
+use Rattle.ledger.specs.Call.{csv, readForm, file}
+use Rattle.ledger.specs.declared.Entry.{Entry}
+use Rattle.ledger.specs.declared.Entry.the-variants.{SevenDays}
+use Rattle.ledger.specs.Filing.{keyOf, cederBelow, acquirerAbove, cederAbove, acquirerBelow, partyTests, dayTests, loadTest, stepTests, placeTests, filingTests}
 use Rattle.ledger.specs.Calls.{actorTests, categoryTests, loadTests, verdictOf}
 use Rattle.ledger.specs.Asking.{engagementTests, recordTests, historyTests}
 
@@ -27,28 +29,28 @@ lowest l day fails = firstFrom fails (firstCounted (l .clock) day) (stepsOf day 
 
 module _ (l : Ledger) where
   -- "filing .. 20 to 36, ascending"
-  pub filing-order : (submitter : List ℕ) (n : Notification) → rows (filingTests l submitter n) ≡
+  pub filing-order : (submitter : List ℕ) (n : Notification) → rows (filingTests l SevenDays submitter n) ≡
       unplaced (20 ∷ 21 ∷ 22 ∷ 23 ∷ 24 ∷ 25 ∷ 26 ∷ 27 ∷ 28 ∷ 29 ∷ 30 ∷ 31 ∷ [])
       ++ (32, lowest l (n .key .day) (cederBelow l (keyOf l n) (n .powers)))
       ∷ (33, lowest l (n .key .day) (acquirerAbove l (keyOf l n) (n .powers)))
       ∷ (34, lowest l (n .key .day) (cederAbove l (keyOf l n) (n .powers)))
       ∷ (35, lowest l (n .key .day) (acquirerBelow l (keyOf l n) (n .powers)))
       ∷ unplaced (36 ∷ [])
-  unfolding filingTests keyOf
+  unfolding partyTests dayTests loadTest stepTests placeTests keyOf
   filing-order submitter n = refl
 
   -- "filing 1 to 8, then 20 to 36": the file's tests and then the filing's are one list
-  pub file-then-filing : (submitter name body : List ℕ) →
-      verdictOf l (file submitter name body) ≡ firstMet (fileTests name body ++ filingTests l submitter (noteIn name body))
-  unfolding verdictOf readFile
-  file-then-filing submitter name body = go (firstMet (fileTests name body)) refl
+  pub file-then-filing : (entry : Entry) (submitter name body : List ℕ) →
+      verdictOf l (file entry submitter (csv name body)) ≡ firstMet (fileTests name body ++ filingTests l entry submitter (noteIn name body))
+  unfolding verdictOf readForm readFile
+  file-then-filing entry submitter name body = go (firstMet (fileTests name body)) refl
     where
       go : (v : Verdict) → firstMet (fileTests name body) ≡ v →
           decide (decide v (accepted (noteIn name body)) refused .verdict)
-          (firstMet (filingTests l submitter (decide v (accepted (noteIn name body)) refused .notification))) No
-          ≡ firstMet (fileTests name body ++ filingTests l submitter (noteIn name body))
-      go Pass e = sym (pass-append (fileTests name body) (filingTests l submitter (noteIn name body)) e)
-      go (No r) e = sym (refuse-append r (fileTests name body) (filingTests l submitter (noteIn name body)) e)
+          (firstMet (filingTests l entry submitter (decide v (accepted (noteIn name body)) refused .notification))) No
+          ≡ firstMet (fileTests name body ++ filingTests l entry submitter (noteIn name body))
+      go Pass e = sym (pass-append (fileTests name body) (filingTests l entry submitter (noteIn name body)) e)
+      go (No r) e = sym (refuse-append r (fileTests name body) (filingTests l entry submitter (noteIn name body)) e)
 
   -- "Enrol 9, 10, 37, 36": an actor; a category has nothing that 10 could refuse
   pub actor-order : (code : List ℕ) (first last : ℕ) → rows (actorTests l code first last) ≡ unplaced (9 ∷ 10 ∷ 37 ∷ 36 ∷ [])

@@ -12,7 +12,7 @@ use Rattle.lists.proofs.Tests.{both-true}
 use Rattle.lists.proofs.Searches.{first-before}
 use Rattle.calendar.specs.Dates.{dayCount}
 use Rattle.calendar.specs.Steps.{stepsOf}
-use Rattle.calendar.specs.Clocks.{firstCounted, isMoment, isBefore, advanceTests}
+use Rattle.calendar.specs.Clocks.{firstCounted, isMoment, isBefore, advanceTests, loadable}
 use Rattle.calendar.specs.declared.clock.Clock.{Clock}
 use Rattle.refusals.specs.Tests.{Test, state, firstMet}
 use Rattle.refusals.specs.declared.Verdict.the-variants.{Pass}
@@ -20,9 +20,10 @@ use Rattle.refusals.specs.declared.StateRefusal.the-variants.{ActorUnknown}
 use Rattle.refusals.proofs.Tests.{passes}
 use Rattle.notification.specs.Forms.{isCode, isCategory, powerEnd}
 use Rattle.notification.specs.declared.Notification.{Notification}
+use Rattle.ledger.specs.declared.Entry.{Entry}
 use Rattle.ledger.specs.Ledger.{Key, Ledger, actorPlaces, categoryPlaces, loadPlaces, recordPlaces, actorAt, categoryAt, hasLoad, approved, power, gained, ceded}
-use Rattle.ledger.specs.Filing.{keyOf, inContract, reach, cederBelow, acquirerAbove, cederAbove, acquirerBelow, filingTests}
-use Rattle.ledger.specs.Calls.{actorTests, categoryTests, loadRanged, loadable, loadTests}
+use Rattle.ledger.specs.Filing.{keyOf, inContract, cederBelow, acquirerAbove, cederAbove, acquirerBelow, filingTests, reachOf, partyTests, dayTests, loadTest, stepTests, placeTests}
+use Rattle.ledger.specs.Calls.{actorTests, categoryTests, loadRanged, loadTests}
 
 -- the test at a place of an accepted call is not met
 unmet : (ts : List Test) → firstMet ts ≡ Pass → (i : ℕ) → i < length ts → getD ts i (true, state ActorUnknown) .0 ≡ false
@@ -50,7 +51,6 @@ pub record Fileable (l : Ledger) (who : ℕ) (k : Key) (ps : List ℕ) : Type 0 
   pub party : (eqb who (k .ceder) || eqb who (k .acquirer)) ≡ true
   pub apart : k .ceder ≡ k .acquirer → ⊥
   pub reached : l .clock .day ≤ k .day
-  pub near : k .day ≤ l .clock .day + reach
   pub counted : firstCounted (l .clock) (k .day) < stepsOf (k .day)
   pub acquirer-contract : inContract l (k .acquirer) (k .day) ≡ true
   pub ceder-contract : inContract l (k .ceder) (k .day) ≡ true
@@ -79,13 +79,21 @@ fits-of l k ps s a b c d =
       acquirer-low = ltb-false _ _ d;
     }
 
-pub filing-ok : (l : Ledger) (submitter : List ℕ) (n : Notification) → firstMet (filingTests l submitter n) ≡ Pass → FilingOk l submitter n
-unfolding filingTests
-filing-ok l submitter n e =
+-- the day is within the reach of the entry, whichever that is
+pub filing-near : (l : Ledger) (entry : Entry) (submitter : List ℕ) (n : Notification) → firstMet (filingTests l entry submitter n) ≡ Pass →
+    keyOf l n .day ≤ l .clock .day + reachOf entry
+unfolding partyTests dayTests placeTests
+filing-near l entry submitter n e =
+    ltb-false (l .clock .day + reachOf entry) (keyOf l n .day) (unmet (filingTests l entry submitter n) e 7 (omega arith))
+
+pub filing-ok : (l : Ledger) (entry : Entry) (submitter : List ℕ) (n : Notification) → firstMet (filingTests l entry submitter n) ≡ Pass →
+    FilingOk l submitter n
+unfolding partyTests dayTests loadTest stepTests placeTests
+filing-ok l entry submitter n e =
     let k = keyOf l n in
     let from = firstCounted (l .clock) (k .day) in
     let until = stepsOf (k .day) in
-    let t = unmet (filingTests l submitter n) e in
+    let t = unmet (filingTests l entry submitter n) e in
     record {
       ceder = ltb-true (k .ceder) (length (l .actors)) (not-false _ (t 0 (omega arith)));
       acquirer = ltb-true (k .acquirer) (length (l .actors)) (not-false _ (t 1 (omega arith)));
@@ -94,7 +102,6 @@ filing-ok l submitter n e =
       party = not-false _ (t 4 (omega arith));
       apart = eqb-false (k .ceder) (k .acquirer) (t 5 (omega arith));
       reached = ltb-false (k .day) (l .clock .day) (t 6 (omega arith));
-      near = ltb-false (l .clock .day + reach) (k .day) (t 7 (omega arith));
       counted = ltb-true from until (not-false _ (t 8 (omega arith)));
       acquirer-contract = not-false _ (t 9 (omega arith));
       ceder-contract = not-false _ (t 10 (omega arith));

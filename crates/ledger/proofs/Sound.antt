@@ -12,15 +12,14 @@ use borrow.Author.Tests.{eqb-true}
 use Rattle.lists.proofs.All.{All, all-none, all-also}
 use Rattle.calendar.specs.Steps.{stepsOf}
 use Rattle.calendar.specs.Clocks.{firstCounted, counts}
-use Rattle.calendar.proofs.Clocks.{counts-from}
+use Rattle.calendar.proofs.Clocks.{counts-from, day-mono, first-mono, loadable-counts}
 use Rattle.notification.specs.Forms.{inPlaces}
 use Rattle.ledger.specs.Statuses.{updated}
 use Rattle.ledger.specs.Call.{Call}
 use Rattle.ledger.specs.Ledger.{Key, Rec, Ledger, fresh, actorAt, loadIs, hasLoad, loaded, approved, moved, acquired, ceded, gained, engagement}
 use Rattle.ledger.specs.Filing.{keyOf, pairs, filed}
-use Rattle.ledger.specs.Calls.{moment, withActor, withCategory, withLoad, withClock, fileNote, step}
+use Rattle.ledger.specs.Calls.{moment, withActor, withCategory, withLoad, withClock, fileNote, step, fileAt}
 use Rattle.ledger.proofs.Passed.{Fits, Fileable, LoadOk, AdvanceOk}
-use Rattle.ledger.proofs.Clocks.{day-mono, first-mono, loadable-counts}
 use Rattle.ledger.proofs.Loads.{no-load, placed-below, load-is}
 use Rattle.ledger.proofs.Powers.{Party, Parties, Span, Spans}
 use Rattle.ledger.proofs.Filed.{live, live-true, filedIn, parties-after, spans-after, ceded-kept, ceded-moved, acquired-kept, acquired-moved}
@@ -186,7 +185,7 @@ module _ (l : Ledger) (by : ℕ) (k : Key) (ps : List ℕ) (ok : Fileable l by k
 -- ---- every call
 
 sound-kept : (l : Ledger) → Sound l → Kept l Sound
-unfolding fileNote
+unfolding fileAt
 sound-kept l k =
     record {
       refused = k;
@@ -205,7 +204,7 @@ abbrev Frozen : Ledger → Ledger → Type 0
 Frozen l m = (a z d s : ℕ) → s < stepsOf d → counts (m .clock) d s ≡ false → engagement m a z d s ≡ engagement l a z d s
 
 frozen-kept : (l : Ledger) → Sound l → Kept l (Frozen l)
-unfolding fileNote engagement gained
+unfolding fileAt engagement gained
 frozen-kept l k =
     record {
       refused = λ a z d s h out. refl;

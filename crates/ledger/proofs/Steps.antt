@@ -9,10 +9,10 @@ use Rattle.refusals.specs.declared.Refusal.{Refusal}
 use Rattle.refusals.specs.declared.Verdict.{Verdict}
 use Rattle.refusals.specs.declared.Verdict.the-variants.{Pass, No}
 use Rattle.refusals.proofs.Tests.{decided}
-use Rattle.notification.specs.Reading.{readFile}
 use Rattle.notification.specs.Forms.{inPlaces}
 use Rattle.notification.specs.declared.Notification.{Notification}
-use Rattle.ledger.specs.Call.{Call, enrolActor, enrolCategory, load, file, advance}
+use Rattle.ledger.specs.declared.Entry.{Entry}
+use Rattle.ledger.specs.Call.{Form, readForm, Call, enrolActor, enrolCategory, load, file, advance}
 use Rattle.ledger.specs.declared.Actor.{Actor}
 use Rattle.ledger.specs.Ledger.{Load, Ledger, actorAt, categoryAt}
 use Rattle.ledger.specs.Filing.{filingTests}
@@ -24,11 +24,12 @@ in-turn : (v w : Verdict) (done : Outcome) (refused : Refusal → Outcome) → d
 in-turn Pass w done refused = refl
 in-turn (No r) w done refused = refl
 
-pub step-file : (l : Ledger) (u name body : List ℕ) →
-    step l (file u name body) ≡ decide (readFile name body .verdict) (stepNote l u (readFile name body .notification)) (refusedBy l)
+pub step-file : (l : Ledger) (entry : Entry) (u : List ℕ) (form : Form) →
+    step l (file entry u form) ≡ decide (readForm u form .verdict) (stepNote l entry u (readForm u form .notification)) (refusedBy l)
 unfolding step verdictOf effect stepNote
-step-file l u name body =
-    in-turn (readFile name body .verdict) (firstMet (filingTests l u (readFile name body .notification))) (fileNote l u (readFile name body .notification)) (refusedBy l)
+step-file l entry u form =
+    let x = readForm u form in
+    in-turn (x .verdict) (firstMet (filingTests l entry u (x .notification))) (fileNote l u (x .notification)) (refusedBy l)
 
 -- the actor, the load that a call hands in
 abbrev pub actorOf : List ℕ → ℕ → ℕ → Actor
@@ -48,11 +49,11 @@ pub record Kept (l : Ledger) (P : Ledger → Type 0) : Type 0 where
   pub clock : (day minute : ℕ) → AdvanceOk l (moment day minute) → P (withClock l (moment day minute))
 
 module _ (l : Ledger) (P : Ledger → Type 0) (kept : Kept l P) where
-  pub note-kept : (u : List ℕ) (n : Notification) → P (stepNote l u n .ledger)
+  pub note-kept : (entry : Entry) (u : List ℕ) (n : Notification) → P (stepNote l entry u n .ledger)
   unfolding stepNote
-  note-kept u n =
-      decided (λ o. P (o .ledger)) (firstMet (filingTests l u n)) (fileNote l u n) (refusedBy l)
-      (λ e. kept .filing u n (filing-ok l u n e)) (λ r e. kept .refused)
+  note-kept entry u n =
+      decided (λ o. P (o .ledger)) (firstMet (filingTests l entry u n)) (fileNote l u n) (refusedBy l)
+      (λ e. kept .filing u n (filing-ok l entry u n e)) (λ r e. kept .refused)
 
   pub step-kept : (c : Call) → P (step l c .ledger)
   unfolding step verdictOf effect
@@ -65,10 +66,10 @@ module _ (l : Ledger) (P : Ledger → Type 0) (kept : Kept l P) where
   step-kept (load a z day most ps) =
       decided (λ o. P (o .ledger)) (firstMet (loadTests l a z day most ps)) (effect l (load a z day most ps)) (refusedBy l)
       (λ e. kept .load a z day most ps (load-ok l a z day most ps e)) (λ r e. kept .refused)
-  step-kept (file u name body) =
-      rw (step-file l u name body)
-      (decided (λ o. P (o .ledger)) (readFile name body .verdict) (stepNote l u (readFile name body .notification)) (refusedBy l)
-      (λ e. note-kept u (readFile name body .notification)) (λ r e. kept .refused))
+  step-kept (file entry u form) =
+      rw (step-file l entry u form)
+      (decided (λ o. P (o .ledger)) (readForm u form .verdict) (stepNote l entry u (readForm u form .notification)) (refusedBy l)
+      (λ e. note-kept entry u (readForm u form .notification)) (λ r e. kept .refused))
   step-kept (advance day minute) =
       decided (λ o. P (o .ledger)) (firstMet (advanceTests (l .clock) (moment day minute))) (effect l (advance day minute)) (refusedBy l)
       (λ e. kept .clock day minute (advance-ok l (moment day minute) e)) (λ r e. kept .refused)

@@ -13,7 +13,7 @@ use Rattle.calendar.specs.Steps.{stepsOf}
 use Rattle.calendar.specs.Clocks.{counts}
 use Rattle.ledger.specs.Call.{Call, load}
 use Rattle.ledger.specs.Ledger.{Ledger, fresh, actorAt, categoryAt, loaded, approved, power, acquired, ceded, gained, engagement}
-use Rattle.ledger.specs.Calls.{fileNote, step}
+use Rattle.ledger.specs.Calls.{fileNote, step, fileAt}
 use Rattle.ledger.specs.Asking.{engagementTests, engagedAt, askEngagement}
 use Rattle.ledger.specs.Reading.{Event, events, isAmong, actorsOf, categoriesOf, clockOf, loadedOf, approvedOf, powerOf, acquiredOf, cededOf}
 use Rattle.ledger.specs.Whole.{Asked, Holds, Demand3, after, answersTo}
@@ -97,7 +97,7 @@ module _ (l : Ledger) (h : List Event) (r : Reads l h) where
 -- an enrolled actor, a category keeps its place through every call
 kept-actor : (l : Ledger) (a : List ℕ) → actorAt (l .actors) a < length (l .actors) → (c : Call) →
     actorAt (step l c .ledger .actors) a ≡ actorAt (l .actors) a
-unfolding fileNote
+unfolding fileAt
 kept-actor l a h c =
     step-kept l (λ m. actorAt (m .actors) a ≡ actorAt (l .actors) a)
     (record {
@@ -112,7 +112,7 @@ kept-actor l a h c =
 
 kept-category : (l : Ledger) (z : List ℕ) → categoryAt (l .categories) z < length (l .categories) → (c : Call) →
     categoryAt (step l c .ledger .categories) z ≡ categoryAt (l .categories) z
-unfolding fileNote
+unfolding fileAt
 kept-category l z h c =
     step-kept l (λ m. categoryAt (m .categories) z ≡ categoryAt (l .categories) z)
     (record {

@@ -7,13 +7,14 @@ use Prim.Native.Nat.{ℕ, _+_, _-_}
 use Rattle.lists.specs.Searches.{same, placeOf, firstFrom}
 use Rattle.calendar.specs.Dates.{date, tomorrow, number, valid, monthLength, leapDays, beforeYear, beforeMonth}
 use Rattle.calendar.specs.Steps.{stepsOf, lastSunday}
-use Rattle.calendar.specs.Clocks.{firstCounted}
+use Rattle.calendar.specs.Clocks.{firstCounted, replacesWhole, loadable}
 use Rattle.notification.specs.Forms.{isCode, isCategory, categoryText, inPlaces}
+use Rattle.ledger.specs.declared.Entry.the-variants.{SevenDays}
 use Rattle.ledger.specs.Statuses.{created, answered, deleted, validated, updated}
 use Rattle.ledger.specs.Call.{advance}
 use Rattle.ledger.specs.Ledger.{Ledger, actorAt, categoryAt, hasLoad, loaded, approved, moved, power, acquired, ceded, gained, engagement}
-use Rattle.ledger.specs.Filing.{keyOf, cederBelow, acquirerAbove, cederAbove, acquirerBelow, filingTests, samePowers, pairs, obsoletes, nextId, filed}
-use Rattle.ledger.specs.Calls.{Outcome, actorTests, categoryTests, loadRanged, loadable, loadTests, verdictOf, fileNote, effect, stepNote, step}
+use Rattle.ledger.specs.Filing.{keyOf, cederBelow, acquirerAbove, cederAbove, acquirerBelow, samePowers, pairs, nextId, filed, partyTests, dayTests, loadTest, stepTests, placeTests}
+use Rattle.ledger.specs.Calls.{Outcome, actorTests, categoryTests, loadRanged, loadTests, verdictOf, effect, stepNote, step, fileAt}
 use Rattle.ledger.specs.Asking.{engagedAt}
 use Rattle.ledger.specs.declared.Answer.the-variants.{Filed}
 use Rattle.ledger.proofs.Examples as Edge
@@ -21,10 +22,10 @@ use Rattle.ledger.proofs.Examples.{eic, first, second, category, plainD
 
 -- one party files powers for the exchange from the first actor to the second
 unfoldable pub by-first : ℕ → Ledger → Outcome
-by-first p l = stepNote l first (note first second plainDay p)
+by-first p l = stepNote l SevenDays first (note first second plainDay p)
 
 unfoldable pub by-second : ℕ → Ledger → Outcome
-by-second p l = stepNote l second (note first second plainDay p)
+by-second p l = stepNote l SevenDays second (note first second plainDay p)
 
 -- the ceder has 60 of 100 and the acquirer 0 of 100; the clock stands on the day, at minute 942
 unfoldable pub dawn : Ledger
@@ -81,7 +82,7 @@ pub record Winter : Type 0 where
   pub lower-by-9 : pair (six .ledger) 37 ≡ (20 + 9, 40 - 9)
 
 pub winter : Winter
-unfolding eic enters noteWith note Edge.two by-first by-second dawn one two three four five six spans pair same placeOf firstFrom date tomorrow number valid monthLength leapDays beforeYear beforeMonth stepsOf lastSunday firstCounted isCode isCategory categoryText inPlaces actorAt categoryAt hasLoad loaded approved moved power acquired ceded gained engagement keyOf cederBelow acquirerAbove cederAbove acquirerBelow filingTests samePowers pairs obsoletes nextId filed actorTests categoryTests loadRanged loadable loadTests verdictOf fileNote effect stepNote step engagedAt
+unfolding eic enters noteWith note Edge.two by-first by-second dawn one two three four five six spans pair same placeOf firstFrom date tomorrow number valid monthLength leapDays beforeYear beforeMonth stepsOf lastSunday firstCounted isCode isCategory categoryText inPlaces actorAt categoryAt hasLoad loaded approved moved power acquired ceded gained engagement keyOf cederBelow acquirerAbove cederAbove acquirerBelow partyTests dayTests loadTest stepTests placeTests samePowers pairs replacesWhole nextId filed actorTests categoryTests loadRanged loadable loadTests verdictOf fileAt effect stepNote step engagedAt
 winter =
     record {
       filed-40 = refl;

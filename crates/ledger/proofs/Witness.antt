@@ -11,17 +11,18 @@ use Rattle.calendar.specs.Dates.{date, tomorrow, number, valid, monthLength, le
 use Rattle.calendar.specs.Steps.{stepsOf, lastSunday}
 use Rattle.calendar.specs.Texts.{pairOf, textOf, dayOf}
 use Rattle.calendar.specs.Labels.{labelOf}
-use Rattle.calendar.specs.Clocks.{firstCounted, counts}
+use Rattle.calendar.specs.Clocks.{firstCounted, counts, replacesWhole, loadable}
 use Rattle.refusals.specs.declared.Refusal.the-variants.{State}
 use Rattle.refusals.specs.declared.StateRefusal.the-variants.{LoadDay}
 use Rattle.notification.specs.Forms.{isCode, isCategory, categoryText, digits, inPlaces, allZero}
 use Rattle.notification.specs.Writing.{nameOf, headerOf, labelsText, linesOf, bodyOf, formed}
 use Rattle.notification.specs.Reading.{keyIn, nameKey, headerKey, isName, isHeader, linesIn, isBody, headLine, stepLines, hasLabels, restOf, valueFrom, isPower, firstBad, powersIn, fileTests, noteIn, readFile}
+use Rattle.ledger.specs.declared.Entry.the-variants.{SevenDays}
 use Rattle.ledger.specs.Statuses.{created, validated}
-use Rattle.ledger.specs.Call.{Call, enrolActor, enrolCategory, load, file, advance}
+use Rattle.ledger.specs.Call.{csv, readForm, Call, enrolActor, enrolCategory, load, file, advance}
 use Rattle.ledger.specs.Ledger.{Ledger, fresh, actorAt, categoryAt, hasLoad, loaded, approved, moved, power, acquired, ceded, gained, engagement}
-use Rattle.ledger.specs.Filing.{keyOf, cederBelow, acquirerAbove, cederAbove, acquirerBelow, filingTests, samePowers, pairs, obsoletes, nextId, filed}
-use Rattle.ledger.specs.Calls.{actorTests, categoryTests, loadRanged, loadable, loadTests, verdictOf, fileNote, effect, stepNote, step}
+use Rattle.ledger.specs.Filing.{keyOf, cederBelow, acquirerAbove, cederAbove, acquirerBelow, samePowers, pairs, nextId, filed, partyTests, dayTests, loadTest, stepTests, placeTests}
+use Rattle.ledger.specs.Calls.{actorTests, categoryTests, loadRanged, loadTests, verdictOf, effect, stepNote, step, fileAt}
 use Rattle.ledger.specs.Asking.{engagedAt}
 use Rattle.ledger.specs.Reading.{Event, events, actorsOf, categoriesOf, clockOf, loadedOf, approvedOf, powerOf, acquiredOf, cededOf}
 use Rattle.ledger.specs.Whole.{Asked, after, answersTo}
@@ -31,7 +32,8 @@ use Rattle.ledger.proofs.Examples.{eic, first, second, third, category,
 
 -- a call that files a notification, by its name and its body
 unfoldable pub filing : List ℕ → ℕ → Call
-filing by p = file by (nameOf (note first second plainDay p .key)) (bodyOf (note first second plainDay p))
+filing by p =
+    file SevenDays by (csv (nameOf (note first second plainDay p .key)) (bodyOf (note first second plainDay p)))
 
 unfoldable pub calls : List Call
 calls =
@@ -76,7 +78,7 @@ pub record Met : Type 0 where
   pub stopped : counts (clockOf (record { call = advance plainDay 1068; answer = step reached (advance plainDay 1068) .answer } ∷ told)) plainDay 36 ≡ false
 
 pub met : Met
-unfolding filing calls next told reached pair eic enters noteWith note same placeOf firstFrom date tomorrow number valid monthLength leapDays beforeYear beforeMonth stepsOf lastSunday firstCounted isCode isCategory categoryText inPlaces actorAt categoryAt hasLoad loaded approved moved power acquired ceded gained engagement keyOf cederBelow acquirerAbove cederAbove acquirerBelow filingTests samePowers pairs obsoletes nextId filed actorTests categoryTests loadRanged loadable loadTests verdictOf fileNote effect stepNote step engagedAt counts pairOf textOf dayOf labelOf nameOf headerOf labelsText linesOf bodyOf formed digits allZero keyIn nameKey headerKey isName isHeader linesIn isBody headLine stepLines hasLabels restOf valueFrom isPower firstBad powersIn fileTests noteIn readFile actorsOf categoriesOf clockOf loadedOf approvedOf powerOf acquiredOf cededOf
+unfolding filing calls next told reached pair eic enters noteWith note same placeOf firstFrom date tomorrow number valid monthLength leapDays beforeYear beforeMonth stepsOf lastSunday firstCounted isCode isCategory categoryText inPlaces actorAt categoryAt hasLoad loaded approved moved power acquired ceded gained engagement keyOf cederBelow acquirerAbove cederAbove acquirerBelow partyTests dayTests loadTest stepTests placeTests samePowers pairs replacesWhole nextId filed actorTests categoryTests loadRanged loadable loadTests verdictOf fileAt effect stepNote step engagedAt counts pairOf textOf dayOf labelOf nameOf headerOf labelsText linesOf bodyOf formed digits allZero keyIn nameKey headerKey isName isHeader linesIn isBody headLine stepLines hasLabels restOf valueFrom isPower firstBad powersIn fileTests noteIn readFile readForm actorsOf categoriesOf clockOf loadedOf approvedOf powerOf acquiredOf cededOf
 met =
     record {
       accepted = refl;

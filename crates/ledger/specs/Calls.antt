@@ -7,7 +7,7 @@ use lib.ListN.{length}
 use Rattle.lists.specs.Searches.{every}
 use Rattle.calendar.specs.Dates.{dayCount}
 use Rattle.calendar.specs.Steps.{stepsOf}
-use Rattle.calendar.specs.Clocks.{firstCounted, advanceTests}
+use Rattle.calendar.specs.Clocks.{firstCounted, loadable, advanceTests}
 use Rattle.calendar.specs.declared.clock.Clock.{Clock}
 use Rattle.refusals.specs.Tests.{Test, input, state, firstMet, decide}
 use Rattle.refusals.specs.declared.Refusal.{Refusal}
@@ -16,11 +16,11 @@ use Rattle.refusals.specs.declared.Verdict.the-variants.{No}
 use Rattle.refusals.specs.declared.InputRefusal.the-variants.{Form, Range}
 use Rattle.refusals.specs.declared.StateRefusal.the-variants.{ActorUnknown, CategoryUnknown, Full, There, LoadDay}
 use Rattle.notification.specs.Forms.{isCode, isCategory, powerEnd, inPlaces}
-use Rattle.notification.specs.Reading.{readFile}
 use Rattle.notification.specs.declared.Notification.{Notification}
-use Rattle.ledger.specs.Call.{Call, enrolActor, enrolCategory, load, file, advance}
+use Rattle.ledger.specs.Call.{readForm, Call, enrolActor, enrolCategory, load, file, advance}
 use Rattle.ledger.specs.declared.Actor.{Actor}
-use Rattle.ledger.specs.Ledger.{Load, Rec, Ledger, actorPlaces, categoryPlaces, loadPlaces, actorAt, categoryAt, hasLoad}
+use Rattle.ledger.specs.declared.Entry.{Entry}
+use Rattle.ledger.specs.Ledger.{Load, Key, Rec, Ledger, actorPlaces, categoryPlaces, loadPlaces, actorAt, categoryAt, hasLoad}
 use Rattle.ledger.specs.Filing.{keyOf, noActor, noCategory, filingTests, pairs, statusBy, nextId, filed}
 use Rattle.ledger.specs.declared.Answer.{Answer}
 use Rattle.ledger.specs.declared.Answer.the-variants.{Moved, Held, Filed, Refused}
@@ -32,13 +32,9 @@ pub record Outcome : Type 0 where
 
 -- ENROL AN ACTOR: 9, 10, 37, 36
 
--- a code to enrol has the form of a code
-abbrev pub enrolable : List ℕ → Bool
-enrolable code = isCode code
-
 unfoldable pub actorTests : Ledger → List ℕ → ℕ → ℕ → List Test
 actorTests l code first last =
-    (not (enrolable code), input Form)
+    (not (isCode code), input Form)
     ∷ (not (ltb first dayCount && ltb last dayCount && leb first last), input Range)
     ∷ (not (noActor l (actorAt (l .actors) code)), state There)
     ∷ (not (ltb (length (l .actors)) actorPlaces), state Full)
@@ -59,10 +55,6 @@ unfoldable pub loadRanged : ℕ → ℕ → List ℕ → Bool
 loadRanged day most ps =
     ltb day dayCount && ltb most powerEnd && eqb (length ps) (stepsOf day) && every (λ p. leb p most) ps
 
--- the load's day is after the clock's
-unfoldable pub loadable : Clock → ℕ → Bool
-loadable clock day = ltb (clock .day) day
-
 unfoldable pub loadTests : Ledger → List ℕ → List ℕ → ℕ → ℕ → List ℕ → List Test
 loadTests l actor category day most ps =
     let a = actorAt (l .actors) actor in
@@ -78,13 +70,14 @@ loadTests l actor category day most ps =
 abbrev pub moment : ℕ → ℕ → Clock
 moment day minute = record { day = day; minute = minute }
 
--- A CALL'S VERDICT; a file is read first, by 1 to 8, and then judged, by 20 to 36
+-- A CALL'S VERDICT; a filing is read first, by 1 to 8, and then judged, by 20 to 36
 unfoldable pub verdictOf : Ledger → Call → Verdict
 verdictOf l (enrolActor code first last) = firstMet (actorTests l code first last)
 verdictOf l (enrolCategory text) = firstMet (categoryTests l text)
 verdictOf l (load actor category day most ps) = firstMet (loadTests l actor category day most ps)
-verdictOf l (file submitter name body) =
-    decide (readFile name body .verdict) (firstMet (filingTests l submitter (readFile name body .notification))) No
+verdictOf l (file entry submitter form) =
+    let x = readForm submitter form in
+    decide (x .verdict) (firstMet (filingTests l entry submitter (x .notification))) No
 verdictOf l (advance day minute) = firstMet (advanceTests (l .clock) (moment day minute))
 
 -- THE EFFECT OF AN ACCEPTED CALL
@@ -104,16 +97,17 @@ withRecords l rs = record { clock = l .clock; actors = l .actors; categories = l
 abbrev pub withClock : Ledger → Clock → Ledger
 withClock l t = record { clock = t; actors = l .actors; categories = l .categories; loads = l .loads; records = l .records }
 
--- a notification is filed: it is paired or created
-unfoldable pub fileNote : Ledger → List ℕ → Notification → Outcome
-fileNote l submitter n =
-    let k = keyOf l n in
-    let by = actorAt (l .actors) submitter in
-    let paired = pairs by k (n .powers) (l .records) in
+-- a notification is filed, by the places of its submitter and its key: it is paired or created
+unfoldable pub fileAt : Ledger → Key → ℕ → List ℕ → Outcome
+fileAt l k by ps =
+    let paired = pairs by k ps (l .records) in
     record {
-      ledger = withRecords l (filed paired l by k (n .powers));
+      ledger = withRecords l (filed paired l by k ps);
       answer = Filed (nextId l) (statusBy paired) (firstCounted (l .clock) (k .day));
     }
+
+abbrev pub fileNote : Ledger → List ℕ → Notification → Outcome
+fileNote l submitter n = fileAt l (keyOf l n) (actorAt (l .actors) submitter) (n .powers)
 
 unfoldable pub effect : Ledger → Call → Outcome
 effect l (enrolActor code first last) =
@@ -131,7 +125,7 @@ effect l (load actor category day most ps) =
           });
       answer = Held (suc (length (l .loads)));
     }
-effect l (file submitter name body) = fileNote l submitter (readFile name body .notification)
+effect l (file entry submitter form) = fileNote l submitter (readForm submitter form .notification)
 effect l (advance day minute) = record { ledger = withClock l (moment day minute); answer = Moved }
 
 -- a refused call leaves the ledger as it was
@@ -139,8 +133,8 @@ abbrev pub refusedBy : Ledger → Refusal → Outcome
 refusedBy l r = record { ledger = l; answer = Refused r }
 
 -- what a filing does once it is read: judged, then filed
-unfoldable pub stepNote : Ledger → List ℕ → Notification → Outcome
-stepNote l submitter n = decide (firstMet (filingTests l submitter n)) (fileNote l submitter n) (refusedBy l)
+unfoldable pub stepNote : Ledger → Entry → List ℕ → Notification → Outcome
+stepNote l entry submitter n = decide (firstMet (filingTests l entry submitter n)) (fileNote l submitter n) (refusedBy l)
 
 -- WHAT A CALL DOES
 unfoldable pub step : Ledger → Call → Outcome

@@ -1,13 +1,13 @@
 -- A filing (document 01, "The ledger" and "Refusals that come from the state"): its tests in their order, then its effect.
 use mathlib.Core.Bool.{Bool, true, false, cond, not, _&&_, _||_}
-use mathlib.Core.List.{List, [], _∷_, map}
+use mathlib.Core.List.{List, [], _∷_, _++_, map}
 use Prim.Native.Nat.{ℕ, zero, suc, _+_, _-_}
 use lib.Dec.{leb, ltb, eqb}
 use lib.ListN.{length, getD, replicate}
 use Rattle.lists.specs.Tests.{allBelow}
 use Rattle.lists.specs.Searches.{some, firstFrom}
 use Rattle.calendar.specs.Steps.{stepsOf}
-use Rattle.calendar.specs.Clocks.{firstCounted}
+use Rattle.calendar.specs.Clocks.{firstCounted, replacesWhole}
 use Rattle.calendar.specs.declared.clock.Clock.{Clock}
 use Rattle.refusals.specs.Tests.{Test, state}
 use Rattle.refusals.specs.declared.Refusal.the-variants.{State}
@@ -17,6 +17,8 @@ use Rattle.notification.specs.Forms.{categoryText, places}
 use Rattle.notification.specs.declared.Notification.{Notification}
 use Rattle.ledger.specs.Statuses.{created, answered, deleted, validated, updated, obsolete}
 use Rattle.ledger.specs.declared.Actor.{Actor}
+use Rattle.ledger.specs.declared.Entry.{Entry}
+use Rattle.ledger.specs.declared.Entry.the-variants.{SevenDays}
 use Rattle.ledger.specs.Ledger.{Load, Key, Rec, Ledger, recordPlaces, actorAt, categoryAt, hasLoad, approved, underKey, power, gained, ceded}
 
 -- THE TESTS
@@ -46,9 +48,12 @@ nobody = record { code = replicate 16 0; first = 0; last = 0 }
 abbrev pub inContract : Ledger → ℕ → ℕ → Bool
 inContract l a d = leb (getD (l .actors) a nobody .first) d && leb d (getD (l .actors) a nobody .last)
 
--- how many days after the clock's a filing may be for
-abbrev pub reach : ℕ
-reach = 7
+-- how many days after the clock's a filing through an entry may be for, and what refuses a later one
+abbrev pub reachOf : Entry → ℕ
+reachOf SevenDays = 7
+
+abbrev pub farOf : Entry → StateRefusal
+farOf SevenDays = DayFar
 
 -- 32 to 35 at a step, with u the key's power now and w the filed one: ceder g+u-w, acquirer h-u+w. What would be taken
 -- away is put on the other side.
@@ -85,31 +90,55 @@ abbrev pub failing : StateRefusal → (ℕ → Bool) → ℕ → ℕ → Test
 failing f test from until =
     (ltb (firstFrom test from (until - from)) until, State f (firstFrom test from (until - from)))
 
--- 20 to 36, in this order
-unfoldable pub filingTests : Ledger → List ℕ → Notification → List Test
-filingTests l submitter n =
-    let k = keyOf l n in
-    let by = actorAt (l .actors) submitter in
-    let from = firstCounted (l .clock) (k .day) in
-    let until = stepsOf (k .day) in
+-- 20 to 25: who files, for whom, in which category
+unfoldable pub partyTests : Ledger → Key → ℕ → List Test
+partyTests l k by =
     (noActor l (k .ceder), state CederUnknown)
     ∷ (noActor l (k .acquirer), state AcquirerUnknown)
     ∷ (noActor l by, state ActorUnknown)
     ∷ (noCategory l (k .category), state CategoryUnknown)
     ∷ (not (eqb by (k .ceder) || eqb by (k .acquirer)), state NotParty)
     ∷ (eqb (k .ceder) (k .acquirer), state OneActor)
-    ∷ (ltb (k .day) (l .clock .day), state DayPast)
-    ∷ (ltb (l .clock .day + reach) (k .day), state DayFar)
-    ∷ (not (ltb from until), state NoStep)
+    ∷ []
+
+-- 26 to 30: the day and the contracts
+unfoldable pub dayTests : Ledger → Entry → Key → List Test
+dayTests l entry k =
+    (ltb (k .day) (l .clock .day), state DayPast)
+    ∷ (ltb (l .clock .day + reachOf entry) (k .day), state (farOf entry))
+    ∷ (not (ltb (firstCounted (l .clock) (k .day)) (stepsOf (k .day))), state NoStep)
     ∷ (not (inContract l (k .acquirer) (k .day)), state AcquirerContract)
     ∷ (not (inContract l (k .ceder) (k .day)), state CederContract)
-    ∷ (not (hasLoad (l .loads) (k .ceder) (k .category) (k .day)), state NoLoad)
-    ∷ failing CederBelow (cederBelow l k (n .powers)) from until
-    ∷ failing AcquirerAbove (acquirerAbove l k (n .powers)) from until
-    ∷ failing CederAbove (cederAbove l k (n .powers)) from until
-    ∷ failing AcquirerBelow (acquirerBelow l k (n .powers)) from until
-    ∷ (not (ltb (length (l .records)) recordPlaces), state Full)
     ∷ []
+
+-- 31
+unfoldable pub loadTest : Ledger → Key → Test
+loadTest l k = (not (hasLoad (l .loads) (k .ceder) (k .category) (k .day)), state NoLoad)
+
+-- 32 to 35 at the steps from one to before another, by what fails at a step
+abbrev pub checks : (cederBelow acquirerAbove cederAbove acquirerBelow : ℕ → Bool) → (from until : ℕ) → List Test
+checks cederBelow acquirerAbove cederAbove acquirerBelow from until =
+    failing CederBelow cederBelow from until
+    ∷ failing AcquirerAbove acquirerAbove from until
+    ∷ failing CederAbove cederAbove from until
+    ∷ failing AcquirerBelow acquirerBelow from until
+    ∷ []
+
+unfoldable pub stepTests : Ledger → Key → List ℕ → List Test
+stepTests l k ps =
+    checks (cederBelow l k ps) (acquirerAbove l k ps) (cederAbove l k ps) (acquirerBelow l k ps)
+    (firstCounted (l .clock) (k .day)) (stepsOf (k .day))
+
+-- 36
+abbrev pub fullTest : Ledger → Test
+fullTest l = (not (ltb (length (l .records)) recordPlaces), state Full)
+
+-- 20 to 36 in this order, by the places of the submitter and of the key
+unfoldable pub placeTests : Ledger → Entry → Key → ℕ → List ℕ → List Test
+placeTests l entry k by ps = partyTests l k by ++ (dayTests l entry k ++ ((loadTest l k ∷ stepTests l k ps) ++ (fullTest l ∷ [])))
+
+abbrev pub filingTests : Ledger → Entry → List ℕ → Notification → List Test
+filingTests l entry submitter n = placeTests l entry (keyOf l n) (actorAt (l .actors) submitter) (n .powers)
 
 -- THE EFFECT
 
@@ -138,18 +167,15 @@ ruleTwo by k ps r = cond (answers by k ps r) (withStatus answered (r .until) r) 
 unfoldable pub pairs : ℕ → Key → List ℕ → List Rec → Bool
 pairs by k ps rs = some (answers by k ps) rs
 
--- rule 3: an earlier V under the key becomes O if its from-step equals the new one or the day is after the clock's,
+-- rule 3: an earlier V under the key becomes O if its from-step equals the new one or the day is after the clock's (it is replaced whole),
 -- otherwise P, and its until-step is the new from-step
 abbrev pub replaces : Key → Rec → Bool
 replaces k r = eqb (r .status) validated && underKey k r
 
-unfoldable pub obsoletes : Clock → Key → Rec → Bool
-obsoletes clock k r = eqb (r .from) (firstCounted clock (k .day)) || ltb (clock .day) (k .day)
-
 abbrev pub ruleThree : Clock → Key → Rec → Rec
 ruleThree clock k r =
     cond (replaces k r)
-    (cond (obsoletes clock k r) (withStatus obsolete (r .until) r) (withStatus updated (firstCounted clock (k .day)) r))
+    (cond (replacesWhole clock (r .from) (k .day)) (withStatus obsolete (r .until) r) (withStatus updated (firstCounted clock (k .day)) r))
     r
 
 -- what a filing makes of an earlier record, by whether it is paired

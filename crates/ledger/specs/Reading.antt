@@ -10,9 +10,8 @@ use Rattle.lists.specs.Sums.{sumOver}
 use Rattle.calendar.specs.Clocks.{freshClock}
 use Rattle.calendar.specs.declared.clock.Clock.{Clock}
 use Rattle.notification.specs.Forms.{categoryText}
-use Rattle.notification.specs.Reading.{readFile}
 use Rattle.notification.specs.declared.Notification.{Notification}
-use Rattle.ledger.specs.Call.{Call, enrolActor, enrolCategory, load, file, advance}
+use Rattle.ledger.specs.Call.{readForm, Call, enrolActor, enrolCategory, load, file, advance}
 use Rattle.ledger.specs.Statuses.{validated}
 use Rattle.ledger.specs.declared.Answer.{Answer}
 use Rattle.ledger.specs.declared.Answer.the-variants.{Moved, Held, Filed, Refused}
@@ -46,7 +45,7 @@ abbrev pub enrols : Call → Answer → List (List ℕ) → List (List ℕ)
 enrols (enrolActor code first last) y xs = xs ++ (code ∷ [])
 enrols (enrolCategory text) y xs = xs
 enrols (load a z d m ps) y xs = xs
-enrols (file u name body) y xs = xs
+enrols (file e u form) y xs = xs
 enrols (advance d m) y xs = xs
 
 unfoldable pub actorsOf : List Event → List (List ℕ)
@@ -56,7 +55,7 @@ abbrev pub admits : Call → Answer → List (List ℕ) → List (List ℕ)
 admits (enrolActor code first last) y xs = xs
 admits (enrolCategory text) y xs = xs ++ (text ∷ [])
 admits (load a z d m ps) y xs = xs
-admits (file u name body) y xs = xs
+admits (file e u form) y xs = xs
 admits (advance d m) y xs = xs
 
 unfoldable pub categoriesOf : List Event → List (List ℕ)
@@ -71,7 +70,7 @@ abbrev pub loads : List ℕ → List ℕ → ℕ → (ℕ → List ℕ → ℕ) 
 loads a z d of (enrolActor code first last) y n = n
 loads a z d of (enrolCategory text) y n = n
 loads a z d of (load a' z' d' m ps) y n = cond (same a' a && same z' z && eqb d' d) (of m ps) n
-loads a z d of (file u name body) y n = n
+loads a z d of (file e u form) y n = n
 loads a z d of (advance d' m) y n = n
 
 unfoldable pub loadedOf : List Event → List ℕ → List ℕ → ℕ → ℕ → ℕ
@@ -86,7 +85,7 @@ abbrev pub sets : Call → Answer → Clock → Clock
 sets (enrolActor code first last) y t = t
 sets (enrolCategory text) y t = t
 sets (load a z d m ps) y t = t
-sets (file u name body) y t = t
+sets (file e u form) y t = t
 sets (advance d m) y t = record { day = d; minute = m }
 
 unfoldable pub clockOf : List Event → Clock
@@ -111,7 +110,7 @@ abbrev pub exchanges : List ℕ → List ℕ → List ℕ → ℕ → ℕ → Ca
 exchanges c a z d s (enrolActor code first last) y p = p
 exchanges c a z d s (enrolCategory text) y p = p
 exchanges c a z d s (load a' z' d' m ps) y p = p
-exchanges c a z d s (file u name body) y p = survives c a z d s (readFile name body .notification) y p
+exchanges c a z d s (file e u form) y p = survives c a z d s (readForm u form .notification) y p
 exchanges c a z d s (advance d' m) y p = p
 
 unfoldable pub powerOf : List Event → List ℕ → List ℕ → List ℕ → ℕ → ℕ → ℕ

@@ -11,6 +11,11 @@ pub struct Actor {
     pub last: u32,
 }
 
+// The entry that a filing comes through: the one that looks seven days ahead.
+pub enum Entry {
+    SevenDays,
+}
+
 // What a call of demand 3's list answers.
 pub enum Answer {
     // The clock moved.

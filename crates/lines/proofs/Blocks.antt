@@ -13,9 +13,9 @@ use Prim.Native.Nat.{ℕ, suc, _+_, _<_, _≤_}
 use lib.ListN.{length, take, drop}
 use lib.Seq.{sets}
 use Rattle.notification.specs.Reading.{linesIn}
-use Rattle.tables.specs.Tables.{Columns}
-use Rattle.register.specs.View.{Register, held}
-use Rattle.register.specs.declared.Head.{Head}
+use Rattle.tables.specs.Tables.{Columns, LoadColumns, columns, loadColumns}
+use Rattle.register.specs.View.{Register, lent, held}
+use Rattle.register.specs.declared.Fresh.{Fresh}
 use Rattle.register.proofs.Runs.{Begun}
 use Rattle.script.specs.Spans.{cut}
 use Rattle.lines.specs.Scripts.{Files}
@@ -47,17 +47,23 @@ pub data Ended : List ℕ → ℕ → ℕ → List ℕ → Type 1 where
 
 -- `answer_lines`: whether a file is given, what was found, the input, and how far the lines were before and after
 pub data Went : Bool → Bool → List ℕ → List ℕ → Walked → Walked → Type 1 where
-  goes : (κs : Lifetimes.Lfts 7) (a : World.ArgsD answer-fn.signature κs) (y : Progress) (s : Clauses.AtExit (Kinds.endedOf 7 answer-kinds.ps answer-kinds.r) κs) →
+  goes : (κs : Lifetimes.Lfts 11) (a : World.ArgsD answer-fn.signature κs) (y : Progress) (s : Clauses.AtExit (Kinds.endedOf 11 answer-kinds.ps answer-kinds.r) κs) →
       (answer-reads.Asked κs a → answer-reads.Post κs a y s) →
-      Went (a .1 .1 .1 .1 .1 .1 .1 .1 .1 .1 .0) (a .1 .1 .1 .1 .1 .1 .1 .1 .1 .1 .1 .0) (now (a .1 .1 .1 .1 .1 .1 .1 .1 .1 .1 .1 .1 .0)) (now (a .1 .1 .1 .1 .1 .1 .0))
-      (stands (record { head = a .0; columns = record { keys = now (a .1 .0); marks = now (a .1 .1 .0); rows = now (a .1 .1 .1 .0) }; loads = now (a .1 .1 .1 .1 .0) }) (a .1 .1 .1 .1 .1 .0) (a .1 .1 .1 .1 .1 .1 .1 .0) (now (a .1 .1 .1 .1 .1 .1 .1 .1 .0)) (a .1 .1 .1 .1 .1 .1 .1 .1 .1 .0) Input)
-      (stands (record { head = y .head; columns = record { keys = now (s .1 .0); marks = now (s .1 .1 .0); rows = now (s .1 .1 .1 .0) }; loads = now (s .1 .1 .1 .1 .0) }) (y .number) (y .at) (now (s .1 .1 .1 .1 .1 .1 .1 .1 .0)) (y .out) (y .wants))
+      Went (a .1 .1 .1 .1 .1 .1 .1 .1 .1 .1 .1 .1 .1 .1 .0) (a .1 .1 .1 .1 .1 .1 .1 .1 .1 .1 .1 .1 .1 .1 .1 .0) (now (a .1 .1 .1 .1 .1 .1 .1 .1 .1 .1 .1 .1 .1 .1 .1 .1 .0)) (now (a .1 .1 .1 .1 .1 .1 .1 .1 .1 .1 .0))
+      (stands
+      (lent (a .0) (columns (now (a .1 .0)) (now (a .1 .1 .0)) (now (a .1 .1 .1 .0)) (now (a .1 .1 .1 .1 .0)) (now (a .1 .1 .1 .1 .1 .0)))
+      (loadColumns (now (a .1 .1 .1 .1 .1 .1 .0)) (now (a .1 .1 .1 .1 .1 .1 .1 .0)) (now (a .1 .1 .1 .1 .1 .1 .1 .1 .0))))
+      (a .1 .1 .1 .1 .1 .1 .1 .1 .1 .0) (a .1 .1 .1 .1 .1 .1 .1 .1 .1 .1 .1 .0) (now (a .1 .1 .1 .1 .1 .1 .1 .1 .1 .1 .1 .1 .0)) (a .1 .1 .1 .1 .1 .1 .1 .1 .1 .1 .1 .1 .1 .0) Input)
+      (stands
+      (lent (y .head) (columns (now (s .1 .0)) (now (s .1 .1 .0)) (now (s .1 .1 .1 .0)) (now (s .1 .1 .1 .1 .0)) (now (s .1 .1 .1 .1 .1 .0)))
+      (loadColumns (now (s .1 .1 .1 .1 .1 .1 .0)) (now (s .1 .1 .1 .1 .1 .1 .1 .0)) (now (s .1 .1 .1 .1 .1 .1 .1 .1 .0))))
+      (y .number) (y .at) (now (s .1 .1 .1 .1 .1 .1 .1 .1 .1 .1 .1 .1 .0)) (y .out) (y .wants))
 
 -- WHAT EACH OF THEM ASKS ALWAYS HOLDS
 pub record AsksNothing : Type 1 where
   pub hold : (κs : Lifetimes.Lfts 1) (a : World.ArgsD hold-fn.signature κs) → hold-reads.Asked κs a
   pub end-line : (κs : Lifetimes.Lfts 1) (a : World.ArgsD end-fn.signature κs) → end-reads.Asked κs a
-  pub answer-lines : (κs : Lifetimes.Lfts 7) (a : World.ArgsD answer-fn.signature κs) → answer-reads.Asked κs a
+  pub answer-lines : (κs : Lifetimes.Lfts 11) (a : World.ArgsD answer-fn.signature κs) → answer-reads.Asked κs a
 
 pub asks-nothing : AsksNothing
 asks-nothing = record { hold = λ κs a. tt; end-line = λ κs a. tt; answer-lines = λ κs a. tt }
@@ -102,8 +108,8 @@ writes s =
 -- A RUN over blocks, and whether the input has ended. `files` is what is found for the line of a number, by the name that it has
 pub data Ran (files : Files) : List (List ℕ) → Bool → Standing → Type 1 where
   -- a fresh register; an input with room for 513 bytes and one more
-  starts : (head : Head) → Begun head → (cols : Columns) (loads : List (List ℕ)) (input output : List ℕ) → 513 < length input →
-      Ran files [] false (record { register = record { head = head; columns = cols; loads = loads }; number = 0; input = input; at = 0; end = 0; output = output; out = 0; wants = Input; written = [] })
+  starts : (start : Fresh) → Begun start → (cols : Columns) (loads : LoadColumns) (input output : List ℕ) → 513 < length input →
+      Ran files [] false (record { register = lent (start .head) cols loads; number = 0; input = input; at = 0; end = 0; output = output; out = 0; wants = Input; written = [] })
   -- more input is wanted, and a block comes behind what is held
   fed : {bs : List (List ℕ)} {s : Standing} → Ran files bs false s → s .wants ≡ Input →
       (n : ℕ) (front : List ℕ) → Held (s .input) (s .at) (s .end) n front →

@@ -8,24 +8,24 @@ use native.Mathlib.Omega.{arith}
 use lib.ListN.{getD}
 use Rattle.lists.proofs.Tests.{by-test}
 use Rattle.lists.proofs.All.{All, all-none, all-more, all-map}
-use Rattle.calendar.specs.Clocks.{firstCounted}
+use Rattle.calendar.specs.Clocks.{firstCounted, replacesWhole}
 use Rattle.calendar.specs.declared.clock.Clock.{Clock}
 use Rattle.calendar.proofs.StepCounts.{steps-small}
 use Rattle.refusals.specs.Tests.{firstMet}
 use Rattle.refusals.proofs.Tests.{decided}
-use Rattle.notification.specs.Reading.{readFile}
 use Rattle.notification.specs.declared.Notification.{Notification}
 use Rattle.ledger.specs.Ledger.{Key, Rec, Ledger, fresh, actorAt}
 use Rattle.ledger.specs.Call as Call
-use Rattle.ledger.specs.Calls.{Outcome, verdictOf, fileNote, effect, refusedBy, stepNote, step}
-use Rattle.ledger.specs.Filing.{keyOf, filingTests, pairs, changed, deletes, answers, replaces, obsoletes, ruleOne, ruleTwo, filed}
+use Rattle.ledger.specs.Calls.{Outcome, verdictOf, fileAt, fileNote, effect, refusedBy, stepNote, step}
+use Rattle.ledger.specs.Filing.{keyOf, filingTests, pairs, changed, deletes, answers, replaces, ruleOne, ruleTwo, filed}
+use Rattle.ledger.specs.declared.Entry.{Entry}
 use Rattle.ledger.specs.Asking.{engagementTests, askEngagement, noRecord, recordAt, recordTests, shown, notShown, askRecord}
 use Rattle.ledger.specs.declared.Engaged.{Engaged}
 use Rattle.ledger.specs.declared.Shown.{Shown}
 use Rattle.ledger.proofs.Passed.{FilingOk, filing-ok}
 use Rattle.ledger.proofs.Steps.{step-kept, step-file}
 use Rattle.answers.specs.Values.{noLetter, saidOf, saidEngaged, saidShown}
-use Rattle.script.specs.Lines.{Asked, advance, enrolActor, enrolCategory, load, file, engagement, recordOf, unknown}
+use Rattle.script.specs.Lines.{Asked, calls, fileOf, engagement, recordOf, unknown, filing}
 use Rattle.lines.specs.Scripts.{Found, lineSays}
 use Rattle.lines.proofs.AnswersFit.{Short, ok-none, ok-one, ok-filed, ok-shown, no-short, refusal-short}
 
@@ -54,13 +54,13 @@ module _ (clock : Clock) (by : ℕ) (k : Key) (ps : List ℕ) where
   changed-soon true r h =
       let x = ruleTwo by k ps (ruleOne by k r) in
       let s = two-soon (ruleOne by k r) (one-soon r h) in
-      from-either (replaces k x) _ x (from-either (obsoletes clock k x) _ _ s s) s
+      from-either (replaces k x) _ x (from-either (replacesWhole clock (x .from) (k .day)) _ _ s s) s
 
 counted-soon : (l : Ledger) (u : List ℕ) (n : Notification) → FilingOk l u n → firstCounted (l .clock) (keyOf l n .day) < 100
 counted-soon l u n ok = omega (arith, ok .counted, steps-small (keyOf l n .day))
 
 early-filed : (l : Ledger) (u : List ℕ) (n : Notification) → FilingOk l u n → Early l → Early (fileNote l u n .ledger)
-unfolding fileNote filed
+unfolding fileAt filed
 early-filed l u n ok e =
     let by = actorAt (l .actors) u in
     let paired = pairs by (keyOf l n) (n .powers) (l .records) in
@@ -86,11 +86,11 @@ early-fresh = all-none
 abbrev SaysShort : Outcome → Type 0
 SaysShort o = Short (saidOf (o .answer))
 
-note-short : (l : Ledger) (u : List ℕ) (n : Notification) → SaysShort (stepNote l u n)
-unfolding stepNote fileNote
-note-short l u n =
-    decided SaysShort (firstMet (filingTests l u n)) (fileNote l u n) (refusedBy l)
-    (λ e. ok-filed _ _ _ (counted-soon l u n (filing-ok l u n e))) (λ r e. refusal-short r)
+note-short : (l : Ledger) (entry : Entry) (u : List ℕ) (n : Notification) → SaysShort (stepNote l entry u n)
+unfolding stepNote fileAt
+note-short l entry u n =
+    decided SaysShort (firstMet (filingTests l entry u n)) (fileNote l u n) (refusedBy l)
+    (λ e. ok-filed _ _ _ (counted-soon l u n (filing-ok l entry u n e))) (λ r e. refusal-short r)
 
 step-short : (l : Ledger) (c : Call.Call) → SaysShort (step l c)
 unfolding step effect
@@ -100,9 +100,10 @@ step-short l (Call.enrolCategory text) =
     decided SaysShort (verdictOf l (Call.enrolCategory text)) (effect l (Call.enrolCategory text)) (refusedBy l) (λ e. ok-one noLetter _ 0 0) (λ r e. refusal-short r)
 step-short l (Call.load a z day most ps) =
     decided SaysShort (verdictOf l (Call.load a z day most ps)) (effect l (Call.load a z day most ps)) (refusedBy l) (λ e. ok-one noLetter _ 0 0) (λ r e. refusal-short r)
-step-short l (Call.file u name body) =
-    subst SaysShort (sym (step-file l u name body))
-    (decided SaysShort (readFile name body .verdict) (stepNote l u (readFile name body .notification)) (refusedBy l) (λ e. note-short l u (readFile name body .notification)) (λ r e. refusal-short r))
+step-short l (Call.file entry u form) =
+    let x = Call.readForm u form in
+    subst SaysShort (sym (step-file l entry u form))
+    (decided SaysShort (x .verdict) (stepNote l entry u (x .notification)) (refusedBy l) (λ e. note-short l entry u (x .notification)) (λ r e. refusal-short r))
 step-short l (Call.advance day minute) =
     decided SaysShort (verdictOf l (Call.advance day minute)) (effect l (Call.advance day minute)) (refusedBy l) (λ e. ok-none noLetter 0 0 0) (λ r e. refusal-short r)
 
@@ -125,12 +126,9 @@ shown-short l asker id h =
 -- A LINE leaves such a ledger, and says something short
 pub early-line : (l : Ledger) (f : Found) (a : Asked) → Early l → Early (lineSays l f a .ledger) × Short (lineSays l f a .said)
 unfolding lineSays
-early-line l f (advance day minute) h = (early-step l _ h, step-short l _)
-early-line l f (enrolActor code first last) h = (early-step l _ h, step-short l _)
-early-line l f (enrolCategory text) h = (early-step l _ h, step-short l _)
-early-line l f (load actor category day approved powers) h = (early-step l _ h, step-short l _)
-early-line l f (file submitter name) h =
-    by-test (f .readable) (λ t. rw t (early-step l _ h, step-short l (Call.file submitter name (f .body)))) (λ t. rw t (h, no-short 11 0 (omega arith)))
+early-line l f (calls c) h = (early-step l c h, step-short l c)
+early-line l f (fileOf submitter name) h =
+    by-test (f .readable) (λ t. rw t (early-step l _ h, step-short l (filing submitter name (f .body)))) (λ t. rw t (h, no-short 11 0 (omega arith)))
 early-line l f (engagement actor category day s) h = (h, engaged-short l actor category day s)
 early-line l f (recordOf asker id) h = (h, shown-short l asker id h)
 early-line l f unknown h = (h, no-short 11 0 (omega arith))

@@ -10,13 +10,13 @@ use borrow.Author.Tests.{eqb-true, eqb-false, leb-true, leb-false, ltb-true, ltb
 use Rattle.lists.specs.Searches.{placeOf}
 use Rattle.lists.proofs.Tests.{by-test}
 use Rattle.script.specs.Lines.{Asked, unknown, comma, lineOf, fileIn}
+use Rattle.script.specs.Fields.{fieldsFrom}
 use Rattle.script.specs.Spans.{start, asked, Read}
-use Rattle.script.specs.Walking.{isComma, fieldsFrom, FieldEnd, ReadAs}
-use Rattle.script.specs.declared.reading.Line.{Line}
-use Rattle.script.specs.declared.reading.Line.the-variants.{File as FileLine, Unknown as UnknownLine}
+use Rattle.script.specs.Walking.{isComma, FieldEnd}
+use Rattle.script.specs.declared.reading.Kind.the-variants.{Files}
 use Rattle.script.proofs.Parting.{field-end}
-use Rattle.script.proofs.LineKinds.{file-short, file-long, file-good}
-use Rattle.script.proofs.Letters.{read-none, line-long, line-short, line-unparted, line-with, letter-f}
+use Rattle.script.proofs.LineKinds.{plain, noLine, file-short, file-long, file-good}
+use Rattle.script.proofs.Letters.{line-long, line-short, line-unparted, line-with, letter-f}
 use Rattle.lines.specs.Walking.{nameAt, wanted, NamedIn}
 use Rattle.lines.proofs.Names.{other-letter, name-read, named-read}
 
@@ -25,12 +25,9 @@ unnamed : (line : List ℕ) → unknown ≡ lineOf line → nameAt line ≡ 0
 unfolding nameAt
 unnamed line e = rw (← e) refl
 
-read-as : (line : List ℕ) (r : Line) (b : Asked) → lineOf line ≡ b → ReadAs line r b → Read line [] r [] (lineOf line)
-read-as line r b e p = read-none line [] r b (lineOf line) e p
-
-unread-as : (line : List ℕ) (b : Asked) → lineOf line ≡ b → ReadAs line UnknownLine b → nameAt line ≡ 0
+unread : (line : List ℕ) (b : Asked) → lineOf line ≡ b → Read line noLine b → nameAt line ≡ 0
 unfolding asked
-unread-as line b e p = unnamed line (p .says [] ∙ sym e)
+unread line b e p = unnamed line (p .says ∙ sym e)
 
 -- the end of the field that starts at a place
 ends-at : (line : List ℕ) (from : ℕ) → from ≤ length line → FieldEnd line from (from + placeOf isComma (drop from line))
@@ -50,11 +47,11 @@ named-f line h e k =
     let b = a + 1 + placeOf isComma (drop (a + 1) line) in
     let pb = ends-at line (a + 1) (omega (arith, i)) in
     by-test (ltb b (length line))
-    (λ u. absurd (omega (arith, k, unread-as line _ e (file-long line a pa b pb (ltb-true b (length line) u)))))
+    (λ u. absurd (omega (arith, k, unread line _ e (file-long line a pa b pb (ltb-true b (length line) u)))))
     (λ u.
-    let w = read-as line (FileLine a) _ e (file-good line a pa b pb i (ltb-false b (length line) u)) in
+    let w : Read line (plain Files a b 0 0) (lineOf line) = rw e (file-good line a pa b pb i (ltb-false b (length line) u)) in
     subst (NamedIn line) (name-read w refl) (named-read w refl)))
-    (λ t. absurd (omega (arith, k, unread-as line _ e (file-short line a pa (ltb-false a (length line) t)))))
+    (λ t. absurd (omega (arith, k, unread line _ e (file-short line a pa (ltb-false a (length line) t)))))
 
 named-line : (line : List ℕ) → 0 < nameAt line → NamedIn line (nameAt line)
 named-line line k =

@@ -15,7 +15,7 @@ use Rattle.lists.proofs.Parts.{drop-past}
 use Rattle.notification.specs.Reading.{linesIn}
 use Rattle.ledger.specs.Ledger.{Ledger}
 use Rattle.answers.specs.declared.Said.{Said}
-use Rattle.script.specs.Lines.{Asked, advance, enrolActor, enrolCategory, load, file, engagement, recordOf, unknown, lineOf}
+use Rattle.script.specs.Lines.{Asked, calls, fileOf, engagement, recordOf, unknown, lineOf}
 use Rattle.script.specs.Answers.{answerLine, answerPut, answerEnd}
 use Rattle.lines.specs.Scripts.{linesOf, Files, Found, Line, lineSays, nameOf, answer, printed}
 use Rattle.lines.specs.Walking.{Walked, hasRoom, next, nameFrom, nameAt, wanted, stops, answered, walk}
@@ -52,11 +52,8 @@ module _ (output : List ℕ) (out n : ℕ) (said : Said) where
 
 any-found : (n : ℕ) (l : Ledger) (f g : Found) (a : Asked) → nameFrom n a ≡ 0 → lineSays l f a ≡ lineSays l g a
 unfolding lineSays
-any-found n l f g (advance day minute) e = refl
-any-found n l f g (enrolActor code first last) e = refl
-any-found n l f g (enrolCategory text) e = refl
-any-found n l f g (load actor category day approved powers) e = refl
-any-found n l f g (file submitter name) e = absurd (omega (arith, e))
+any-found n l f g (calls c) e = refl
+any-found n l f g (fileOf submitter name) e = absurd (omega (arith, e))
 any-found n l f g (engagement actor category day s) e = refl
 any-found n l f g (recordOf asker id) e = refl
 any-found n l f g unknown e = refl

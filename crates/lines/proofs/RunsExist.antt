@@ -15,12 +15,13 @@ use Rattle.lists.proofs.Tests.{by-test, and-right}
 use Rattle.lists.proofs.All.{All, all-none, all-more}
 use Rattle.notification.specs.Reading.{linesIn}
 use Rattle.ledger.specs.Ledger.{fresh}
-use Rattle.tables.specs.Tables.{Columns}
+use Rattle.tables.specs.Tables.{Columns, LoadColumns}
 use Rattle.register.specs.View.{held}
-use Rattle.register.specs.declared.Head.{Head}
+use Rattle.register.specs.View.{lent}
+use Rattle.register.specs.declared.Fresh.{Fresh}
 use Rattle.register.proofs.Runs.{Begun, begun-is}
-use Rattle.register.proofs.Sized.{Sized, lent}
-use Rattle.register.proofs.RunsExist.{Lent, fresh-sized}
+use Rattle.register.proofs.Sized.{LoadsSized, RecordsSized, Sized, ref}
+use Rattle.register.proofs.RunsExist.{fresh-sized}
 use Rattle.script.specs.Spans.{cut}
 use Rattle.lines.specs.Scripts.{linesOf, joined, Files, printed}
 use Rattle.lines.specs.Walking.{heldOf, isLast, ended, endedAt, Walked, walk}
@@ -79,7 +80,7 @@ module _ {long : ℕ} (s : Standing) (f : Fit long s) (given readable : Bool) (b
 
 -- where a run starts
 abbrev pub start-of : {files : Files} {bs : List (List ℕ)} {e : Bool} {s : Standing} → Ran files bs e s → Standing
-start-of {s = s} (starts head b cols loads input output h) = s
+start-of {s = s} (starts start b cols loads input output h) = s
 start-of (fed run i n front h b input p l readable body w g) = start-of run
 start-of (found run from to i w g) = start-of run
 start-of (wrote run) = start-of run
@@ -172,7 +173,7 @@ module _ (files : Files) (first : Standing) (long : ℕ) where
 
     is-held : Held (s .input) (s .at) (s .end) (length kept) front
     is-held =
-        holds ([], tt) (lent (s .input), (s .at, (s .end, tt))) (length kept) (lent front, (s .at, (s .end, tt))) (λ t. (refl, refl, few-kept .0, few-kept .1))
+        holds ([], tt) (ref (s .input), (s .at, (s .end, tt))) (length kept) (ref front, (s .at, (s .end, tt))) (λ t. (refl, refl, few-kept .0, few-kept .1))
 
     front-long : length front ≡ long
     front-long = length-sets (s .input) 0 kept ∙ x .fit .as-long
@@ -211,7 +212,7 @@ module _ (files : Files) (first : Standing) (long : ℕ) where
         (λ t. rw t (omega arith))
 
     is-ended : Ended front (length kept) end last
-    is-ended = ends ([], tt) (lent front, (length kept, tt)) end (lent last, (length kept, tt)) (λ t. (refl, refl, end-inside))
+    is-ended = ends ([], tt) (ref front, (length kept, tt)) end (ref last, (length kept, tt)) (λ t. (refl, refl, end-inside))
 
     pub closes : Idle bs true
     closes =
@@ -228,9 +229,9 @@ module _ (files : Files) (first : Standing) (long : ℕ) where
 
 -- ---- from a fresh register
 
-abbrev pub begins : Head → Columns → List (List ℕ) → List ℕ → List ℕ → Standing
-begins head cols loads input output =
-    record { register = record { head = head; columns = cols; loads = loads }; number = 0; input = input; at = 0; end = 0; output = output; out = 0; wants = Input; written = [] }
+abbrev pub begins : Fresh → Columns → LoadColumns → List ℕ → List ℕ → Standing
+begins start cols loads input output =
+    record { register = lent (start .head) cols loads; number = 0; input = input; at = 0; end = 0; output = output; out = 0; wants = Input; written = [] }
 
 -- A RUN OVER ALL BLOCKS from a standing, to where the input has ended and no line is left; and what it prints
 pub record Runs (files : Files) (bs : List (List ℕ)) (first : Standing) : Type 1 where
@@ -240,19 +241,19 @@ pub record Runs (files : Files) (bs : List (List ℕ)) (first : Standing) : Type
   pub idle : standing .wants ≡ Input
   pub prints : length (joined bs) < most → out-of standing ≡ printed files fresh 1 (linesOf (joined bs))
 
--- EVERY SCRIPT RUNS, WHATEVER ITS BLOCKS: from every fresh head (`fresh-begun` of the register is one), with lent columns and rows that have the
+-- EVERY SCRIPT RUNS, WHATEVER ITS BLOCKS: from every fresh register (`fresh-begun` of the register is one), with lent columns and rows that have the
 -- places of their types, an input with room for 513 bytes and one more and for 513 bytes and each block, and an output with room for an answer
-pub every-script-runs : (files : Files) (bs : List (List ℕ)) (head : Head) → Begun head → (cols : Columns) (loads : List (List ℕ)) → Lent cols loads →
-    (input output : List ℕ) → 513 < length input → 64 ≤ length output → All (λ b. length b + 513 ≤ length input) bs → Runs files bs (begins head cols loads input output)
-every-script-runs files bs head b cols loads l input output h k a =
-    let first = begins head cols loads input output in
+pub every-script-runs : (files : Files) (bs : List (List ℕ)) (start : Fresh) → Begun start → (cols : Columns) (loads : LoadColumns) → RecordsSized cols → LoadsSized loads →
+    (input output : List ℕ) → 513 < length input → 64 ≤ length output → All (λ b. length b + 513 ≤ length input) bs → Runs files bs (begins start cols loads input output)
+every-script-runs files bs start b cols loads c l input output h k a =
+    let first = begins start cols loads input output in
     let long = length input in
-    let start : Idle files first long [] false = record {
+    let idle : Idle files first long [] false = record {
       standing = first;
-      run = starts head b cols loads input output h;
+      run = starts start b cols loads input output h;
       since = refl;
       fit = record {
-        sized = rw (begun-is b .0) (fresh-sized cols loads l);
+        sized = rw (begun-is b .0) (fresh-sized cols loads c l);
         early = subst Early (sym (begun-is b .1 cols loads)) early-fresh;
         reached = omega arith;
         waits = omega arith;
@@ -261,7 +262,7 @@ every-script-runs files bs head b cols loads l input output h k a =
       };
       idle = refl;
     } in
-    let x = closes files first long (feeds-all files first long [] bs a start) in
+    let x = closes files first long (feeds-all files first long [] bs a idle) in
     record {
       standing = x .standing;
       run = x .run;

@@ -12,19 +12,20 @@ use Rattle.lists.proofs.Tests.{true-false}
 use Rattle.notification.specs.Reading.{linesIn}
 use Rattle.reader.specs.Walking.{LineEnd}
 use Rattle.reader.proofs.Ends.{lines-here, lines-over}
+use Rattle.ledger.specs.Asking.{askEngagement}
+use Rattle.answers.specs.Values.{saidEngaged}
 use Rattle.answers.specs.declared.Said.{Said}
 use Rattle.register.specs.View.{Register, held}
-use Rattle.turns.specs.Told.{Told, tells}
-use Rattle.script.specs.Lines.{Asked, advance, enrolActor, enrolCategory, load, file, engagement, recordOf, unknown, lineOf, engagementOf, fileOf}
-use Rattle.script.specs.Spans.{cut, asked, Read}
+use Rattle.register.specs.Told.{Told, tells}
+use Rattle.script.specs.Lines.{Asked, calls, fileOf, engagement, recordOf, unknown, lineOf}
+use Rattle.script.specs.Spans.{cut, firstText, secondText, asked, Read}
 use Rattle.script.specs.Answers.{answerPut, answerEnd}
+use Rattle.script.specs.declared.reading.Kind.the-variants.{Engagement}
 use Rattle.script.specs.declared.reading.Line.{Line}
-use Rattle.script.specs.declared.reading.Line.the-variants.{Engagement, File as Filing}
-use Rattle.session.specs.declared.asking.Asking.{Asking}
-use Rattle.session.specs.Lines.{onlyAsks, askStep, engagedBy, lineStep, filedBy}
-use Rattle.session.proofs.Spans.{asks-only, asks-engagement, engaged-within, filed-within, within-form, answered as told-by}
+use Rattle.session.specs.Lines.{onlyAsks, askStep, lineStep}
+use Rattle.session.proofs.Spans.{asks-only, asks-engagement, engagement-said}
 use Rattle.lines.proofs.Fronts.{drop-take}
-use Rattle.lines.proofs.Names.{none-wanted, by-itself, file-read}
+use Rattle.lines.proofs.Names.{none-wanted}
 use Rattle.lines.specs.Scripts.{Line as Done, lineSays}
 use Rattle.lines.specs.Walking.{Walked, stands, hasRoom, next, nameFrom, nameAt, wanted, stops, tellsOn, answered, walk, NamedIn, NamedIf, Progressed}
 use Rattle.lines.specs.declared.answering.Wants.{Wants}
@@ -35,55 +36,41 @@ use Rattle.lines.specs.declared.answering.Wants.the-variants.{Input, Fil
 -- such a line names no file
 asks-none : (n : ℕ) (a : Asked) → onlyAsks a ≡ true → nameFrom n a ≡ 0
 unfolding onlyAsks
-asks-none n (advance day minute) e = refl
-asks-none n (enrolActor code first last) e = refl
-asks-none n (enrolCategory text) e = refl
-asks-none n (load actor category day approved powers) e = refl
-asks-none n (file submitter name) e = true-false true refl (sym e)
+asks-none n (calls c) e = refl
+asks-none n (fileOf submitter name) e = true-false true refl (sym e)
 asks-none n (engagement actor category day s) e = refl
 asks-none n (recordOf asker id) e = refl
 asks-none n unknown e = refl
-
-engagement-known : {a b : List ℕ} {d s : ℕ} → engagement a b d s ≡ unknown → ⊥
-engagement-known e = let z : _≡_ {A = ℕ} 0 1 = cc in absurd (omega arith)
 
 -- what a line that only asks tells, and that it names no file
 pub record Answers (r : Register) (readable : Bool) (body line : List ℕ) (given : Bool) (said : Said) : Type 0 where
   pub told : tells r said ≡ lineStep r readable body (lineOf line)
   pub unnamed : wanted given line ≡ 0
 
-module _ (r : Register) (readable : Bool) (body line : List ℕ) (given : Bool) (said : Said) where
-  only-asks : onlyAsks (lineOf line) ≡ true → said ≡ askStep (held r) (lineOf line) → Answers r readable body line given said
-  unfolding nameAt
-  only-asks e f =
-      record {
-        told = ap (tells r) f ∙ sym (asks-only r readable body (lineOf line) e);
-        unnamed = none-wanted given line (asks-none (length line) (lineOf line) e);
-      }
+pub ask-answers : (r : Register) (readable : Bool) (body : List ℕ) (given : Bool) {line : List ℕ} {form : Line} {t : Bool} {said : Said} →
+    Read line form (lineOf line) → ((line : List ℕ) → t ≡ onlyAsks (asked line form)) → t ≡ true → said ≡ askStep (held r) (asked line form) →
+    Answers r readable body line given said
+unfolding nameAt
+ask-answers r readable body given {line} w e k f =
+    let asks : onlyAsks (lineOf line) ≡ true = ap onlyAsks (sym (w .says)) ∙ sym (e line) ∙ k in
+    record {
+      told = ap (tells r) (f ∙ ap (askStep (held r)) (w .says)) ∙ sym (asks-only r readable body (lineOf line) asks);
+      unnamed = none-wanted given line (asks-none (length line) (lineOf line) asks);
+    }
 
-  pub engagement-answers : {form : Line} {actor category day s : ℕ} → ((powers : List ℕ) → Read line powers form powers (engagementOf line)) →
-      form ≡ Engagement actor category day s → said ≡ engagedBy (held r) line actor category day s → Answers r readable body line given said
-  unfolding asked
-  engagement-answers {actor = actor} {category = category} {day = day} {s = s} w e f =
-      let read : asked line (Engagement actor category day s) [] ≡ engagementOf line = ap (λ y. asked line y []) (sym e) ∙ w [] .says in
-      let whole : asked line (Engagement actor category day s) [] ≡ lineOf line = by-itself 69 line engagement-known read in
-      let known : onlyAsks (lineOf line) ≡ true =
-      ap onlyAsks (sym whole) ∙ sym (asks-engagement (held r) line [] actor category day s .0) in
-      only-asks known
-      (f ∙ engaged-within (held r) line [] actor category day s (within-form (w []) e) ∙ ap (askStep (held r)) whole)
+pub engagement-answers : (r : Register) (readable : Bool) (body : List ℕ) (given : Bool) {line : List ℕ} {form : Line} {said : Said} →
+    Read line form (lineOf line) → form .kind ≡ Engagement →
+    said ≡ saidEngaged (askEngagement (held r) (firstText line form) (secondText line form) (form .day) (form .number)) →
+    Answers r readable body line given said
+engagement-answers r readable body given {line} {form} w e f =
+    ask-answers r readable body given w (λ (any : List ℕ). asks-engagement any form e) refl (engagement-said line form (held r) e f)
 
-pub ask-answers : (r : Register) (readable : Bool) (body line : List ℕ) (given : Bool) (x : Asking) →
-    x ≡ record { asks = onlyAsks (lineOf line); said = askStep (held r) (lineOf line) } → x .asks ≡ true → Answers r readable body line given (x .said)
-ask-answers r readable body line given x e k =
-    only-asks r readable body line given (x .said) (sym (ap (λ (y : Asking). y .asks) e) ∙ k) (ap (λ (y : Asking). y .said) e)
+-- ---- lines that do something
 
--- ---- lines that file
-
-pub file-answers : (r : Register) (readable : Bool) (body line : List ℕ) {form : Line} {submitter : ℕ} {x : Told} →
-    ((powers : List ℕ) → Read line powers form powers (fileOf line)) → form ≡ Filing submitter → x ≡ filedBy r readable body line submitter →
-    x ≡ lineStep r readable body (lineOf line)
-file-answers r readable body line w e f =
-    told-by r readable body line [] (file-read w e) e (f ∙ filed-within r readable body line [] _ (within-form (w []) e))
+-- what is told of a line by what was read of it is what is told of the line
+pub told-by : (r : Register) (readable : Bool) (body : List ℕ) {line : List ℕ} {form : Line} {x : Told} → Read line form (lineOf line) →
+    x ≡ lineStep r readable body (asked line form) → x ≡ lineStep r readable body (lineOf line)
+told-by r readable body w e = e ∙ ap (lineStep r readable body) (w .says)
 
 -- ---- a step of the walk
 
@@ -92,12 +79,9 @@ says-step : (r : Register) (readable : Bool) (body : List ℕ) (a : Asked) →
     lineSays (held r) (record { readable = readable; body = body }) a
     ≡ record { ledger = lineStep r readable body a .ledger; said = lineStep r readable body a .said }
 unfolding lineSays lineStep
-says-step r readable body (advance day minute) = refl
-says-step r readable body (enrolActor code first last) = refl
-says-step r readable body (enrolCategory text) = refl
-says-step r readable body (load actor category day approved powers) = refl
-says-step r true body (file submitter name) = refl
-says-step r false body (file submitter name) = refl
+says-step r readable body (calls c) = refl
+says-step r true body (fileOf submitter name) = refl
+says-step r false body (fileOf submitter name) = refl
 says-step r readable body (engagement actor category day s) = refl
 says-step r readable body (recordOf asker id) = refl
 says-step r readable body unknown = refl
@@ -224,7 +208,7 @@ module _ {input : List ℕ} {readable : Bool} {body : List ℕ} {given₀ : Bool
               after = omega (arith, l, i, r);
               inside = e .within;
               submitter = n .submitter;
-              line = n .files ∙ ap (file (n .submitter)) (cut-rest input (w .at) name stop);
+              line = n .files ∙ ap (fileOf (n .submitter)) (cut-rest input (w .at) name stop);
             })
 
         pub goes-on : {s : Register} {said : Said} {n out : ℕ} {output : List ℕ} → tells s said ≡ lineStep (w .register) readable body (lineOf its-line) →

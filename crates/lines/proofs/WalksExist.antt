@@ -17,10 +17,10 @@ use Rattle.ledger.specs.Call as Call
 use Rattle.register.specs.View.{Register, held}
 use Rattle.register.specs.Written.{Done, does}
 use Rattle.register.proofs.Runs.{did-all}
-use Rattle.register.proofs.Sized.{Sized, lent}
+use Rattle.register.proofs.Sized.{Sized, ref}
 use Rattle.register.proofs.RunsExist.{next as next-call}
-use Rattle.turns.specs.Told.{Told, told, tells}
-use Rattle.script.specs.Lines.{Asked, advance, enrolActor, enrolCategory, load, file, engagement, recordOf, unknown, lineOf}
+use Rattle.register.specs.Told.{Told, told, tells}
+use Rattle.script.specs.Lines.{Asked, calls, fileOf, engagement, recordOf, unknown, lineOf}
 use Rattle.script.specs.Spans.{cut}
 use Rattle.script.specs.Answers.{answerEnd}
 use Rattle.session.specs.Lines.{lineStep}
@@ -51,12 +51,9 @@ even-call r z c =
 
 even-line : (r : Register) (readable : Bool) (body : List ℕ) (a : Asked) → Sized r → Even (lineStep r readable body a)
 unfolding lineStep
-even-line r readable body (advance day minute) z = even-call r z _
-even-line r readable body (enrolActor code first last) z = even-call r z _
-even-line r readable body (enrolCategory text) z = even-call r z _
-even-line r readable body (load actor category day approved powers) z = even-call r z _
-even-line r true body (file submitter name) z = even-call r z _
-even-line r false body (file submitter name) z = record { sized = z; holds = refl }
+even-line r readable body (calls c) z = even-call r z c
+even-line r true body (fileOf submitter name) z = even-call r z _
+even-line r false body (fileOf submitter name) z = record { sized = z; holds = refl }
 even-line r readable body (engagement actor category day s) z = record { sized = z; holds = refl }
 even-line r readable body (recordOf asker id) z = record { sized = z; holds = refl }
 even-line r readable body unknown z = record { sized = z; holds = refl }
@@ -174,7 +171,7 @@ module _ (input : List ℕ) (readable : Bool) (body : List ℕ) where
         after = omega (arith, i .0 .inside);
         inside = omega (arith, l, h);
         submitter = i .0 .submitter;
-        line = ap lineOf here ∙ i .0 .files ∙ ap (file (i .0 .submitter)) (ap (drop (wanted given line)) (sym here) ∙ cut-rest input (w .at) (wanted given line) to);
+        line = ap lineOf here ∙ i .0 .files ∙ ap (fileOf (i .0 .submitter)) (ap (drop (wanted given line)) (sym here) ∙ cut-rest input (w .at) (wanted given line) to);
       })
       (λ q. inr (rw (i .1) (omega arith))))))
       (λ t. subst (Goes input given w) (sym (walk-room readable body given w line ls t)) (stays given w Room g h k (omega arith) (λ q. true-false (hasRoom (w .output) (w .out)) q t)))
@@ -196,10 +193,10 @@ module _ (given readable : Bool) (body input : List ℕ) (r : Register) (number 
   walk-exists g =
       let v = walk readable body given before (linesIn (drop at input)) in
       let x = v .register in
-      goes ([], ([], ([], ([], ([], ([], ([], tt)))))))
-      (r .head, (lent (r .columns .keys), (lent (r .columns .marks), (lent (r .columns .rows), (lent (r .loads), (number, (lent input, (at, (lent output, (out, (given, (readable, (lent body, tt)))))))))))))
+      goes ([], ([], ([], ([], ([], ([], ([], ([], ([], ([], ([], tt)))))))))))
+      (r .head, (ref (r .columns .statuses), (ref (r .columns .ids), (ref (r .columns .keys), (ref (r .columns .marks), (ref (r .columns .rows), (ref (r .loads .keys), (ref (r .loads .approved), (ref (r .loads .rows), (number, (ref input, (at, (ref output, (out, (given, (readable, (ref body, tt)))))))))))))))))
       (record { head = x .head; number = v .number; at = v .at; out = v .out; wants = v .wants })
-      (r .head, (lent (x .columns .keys), (lent (x .columns .marks), (lent (x .columns .rows), (lent (x .loads), (number, (lent input, (at, (lent (v .output), (out, (given, (readable, (lent body, tt)))))))))))))
+      (r .head, (ref (x .columns .statuses), (ref (x .columns .ids), (ref (x .columns .keys), (ref (x .columns .marks), (ref (x .columns .rows), (ref (x .loads .keys), (ref (x .loads .approved), (ref (x .loads .rows), (number, (ref input, (at, (ref (v .output), (out, (given, (readable, (ref body, tt)))))))))))))))))
       (λ t. (
         ap (λ l. record { register = x; ledger = l; number = v .number; at = v .at; output = v .output; out = v .out; wants = v .wants }) (sym (g .good .holds)),
         record { reached = λ h. g .reached; room = λ h. g .room; named = g .named },

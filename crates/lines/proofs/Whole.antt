@@ -17,9 +17,9 @@ use Rattle.lists.proofs.Tests.{by-test, true-false}
 use Rattle.notification.specs.Reading.{linesIn}
 use Rattle.notification.proofs.Lines.{inLine, lines-first}
 use Rattle.ledger.specs.Ledger.{Ledger, fresh}
-use Rattle.register.specs.View.{held}
-use Rattle.tables.specs.Tables.{Columns}
-use Rattle.register.specs.declared.Head.{Head}
+use Rattle.register.specs.View.{held, lent}
+use Rattle.tables.specs.Tables.{Columns, LoadColumns}
+use Rattle.register.specs.declared.Fresh.{Fresh}
 use Rattle.register.proofs.Runs.{Begun, begun-is}
 use Rattle.script.specs.Lines.{lineOf}
 use Rattle.script.specs.Spans.{cut}
@@ -265,10 +265,10 @@ unfolding printed
 nothing-printed files l n = refl
 
 module _ (files : Files) where
-  at-first : (head : Head) → Begun head → (cols : Columns) (loads : List (List ℕ)) (input output : List ℕ) → 513 < length input → (s : Standing) →
-      s ≡ record { register = record { head = head; columns = cols; loads = loads }; number = 0; input = input; at = 0; end = 0; output = output; out = 0; wants = Input; written = [] } →
+  at-first : (start : Fresh) → Begun start → (cols : Columns) (loads : LoadColumns) (input output : List ℕ) → 513 < length input → (s : Standing) →
+      s ≡ record { register = lent (start .head) cols loads; number = 0; input = input; at = 0; end = 0; output = output; out = 0; wants = Input; written = [] } →
       Tells files [] false s × Rests s
-  at-first head b cols loads input output h s e =
+  at-first start b cols loads input output h s e =
       rw e (
         record {
           whole = λ k more c. ap (λ l. printed files l 1 (cuts k more)) (sym (begun-is b .1 cols loads));
@@ -296,7 +296,7 @@ module _ (files : Files) where
   shorter bs b h = omega (arith, h, ap length (joined-more bs b) ∙ length-append (joined bs) b)
 
   sound : {bs : List (List ℕ)} {e : Bool} {s : Standing} → Ran files bs e s → length (joined bs) < most → Tells files bs e s × Rests s
-  sound (starts head b cols loads input output h) few = at-first head b cols loads input output h _ refl
+  sound (starts start b cols loads input output h) few = at-first start b cols loads input output h _ refl
   sound (fed {bs = bs} {s = s} run i n front h b input p l readable body w g) few =
       let q = sound run (shorter bs b few) in
       goes-on files (bs ++ b ∷ []) false (reads s input (n + length b)) few (block-comes files bs s (q .0) (q .1) i n front h b input p l) (went-is g)

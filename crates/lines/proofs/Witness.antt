@@ -11,9 +11,9 @@ use Rattle.ledger.specs.Ledger.{fresh, categoryAt}
 use Rattle.lists.specs.Searches.{placeOf}
 use Rattle.notification.specs.Forms.{isCategory}
 use Rattle.ledger.specs.Calls.{step, verdictOf, effect, categoryTests}
-use Rattle.register.specs.Written.{freshHead}
+use Rattle.register.specs.Written.{freshRegister}
 use Rattle.register.proofs.RunsExist.{fresh-begun}
-use Rattle.register.proofs.Witness.{columns, loads, lent-zeros}
+use Rattle.register.proofs.Witness.{zeros, noLoads, zeros-sized, loads-sized}
 use Rattle.script.specs.Numbers.{decimalIn}
 use Rattle.script.specs.Lines.{fields, categoryIn, fileIn, byLetter, lineOf}
 use Rattle.script.specs.Answers.{valueText, valuesText, saidText, answerLine}
@@ -38,10 +38,10 @@ output = replicate 64 0
 abbrev answers : List ℕ
 answers = 49 ∷ 44 ∷ 111 ∷ 107 ∷ 44 ∷ 49 ∷ 10 ∷ 50 ∷ 44 ∷ 110 ∷ 111 ∷ 44 ∷ 49 ∷ 49 ∷ 44 ∷ 48 ∷ 10 ∷ []
 
-pub ran : Runs none-there blocks (begins freshHead columns loads input output)
+pub ran : Runs none-there blocks (begins freshRegister zeros noLoads input output)
 ran =
     let n = length-replicate {A = ℕ} 600 0 in
-    every-script-runs none-there blocks freshHead fresh-begun columns loads lent-zeros input output (omega (arith, n)) (omega (arith, length-replicate {A = ℕ} 64 0))
+    every-script-runs none-there blocks freshRegister fresh-begun zeros noLoads zeros-sized loads-sized input output (omega (arith, n)) (omega (arith, length-replicate {A = ℕ} 64 0))
     (all-more (omega (arith, n)) (all-more (omega (arith, n)) all-none))
 
 said : printed none-there fresh 1 (linesOf (joined blocks)) ≡ answers

@@ -9,7 +9,7 @@ use Rattle.ledger.specs.Calls.{step}
 use Rattle.ledger.specs.Asking.{askEngagement, askRecord}
 use Rattle.answers.specs.declared.Said.{Said}
 use Rattle.answers.specs.Values.{saidOf, saidEngaged, saidShown, saidRefused}
-use Rattle.script.specs.Lines.{Asked, advance, enrolActor, enrolCategory, load, file, engagement, recordOf, unknown, lineOf}
+use Rattle.script.specs.Lines.{Asked, calls, fileOf, engagement, recordOf, unknown, filing, lineOf}
 use Rattle.script.specs.Answers.{answerLine}
 use Rattle.session.specs.Lines.{noCall}
 
@@ -57,11 +57,8 @@ says l said = record { ledger = l; said = said }
 
 -- A LINE is its call of the ledger, or it asks, or it is 11; "(the body is the file of that name)": what is found of it
 unfoldable pub lineSays : Ledger → Found → Asked → Line
-lineSays l f (advance day minute) = called l (Call.advance day minute)
-lineSays l f (enrolActor code first last) = called l (Call.enrolActor code first last)
-lineSays l f (enrolCategory text) = called l (Call.enrolCategory text)
-lineSays l f (load actor category day approved powers) = called l (Call.load actor category day approved powers)
-lineSays l f (file submitter name) = cond (f .readable) (called l (Call.file submitter name (f .body))) (says l (saidRefused noCall))
+lineSays l f (calls c) = called l c
+lineSays l f (fileOf submitter name) = cond (f .readable) (called l (filing submitter name (f .body))) (says l (saidRefused noCall))
 lineSays l f (engagement actor category day s) = says l (saidEngaged (askEngagement l actor category day s))
 lineSays l f (recordOf asker id) = says l (saidShown (askRecord l asker id))
 lineSays l f unknown = says l (saidRefused noCall)
@@ -72,11 +69,8 @@ Files = ℕ → List ℕ → Found
 
 -- the name of the file that a line names; no bytes where it names none
 abbrev pub nameOf : Asked → List ℕ
-nameOf (advance day minute) = []
-nameOf (enrolActor code first last) = []
-nameOf (enrolCategory text) = []
-nameOf (load actor category day approved powers) = []
-nameOf (file submitter name) = name
+nameOf (calls c) = []
+nameOf (fileOf submitter name) = name
 nameOf (engagement actor category day s) = []
 nameOf (recordOf asker id) = []
 nameOf unknown = []

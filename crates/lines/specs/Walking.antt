@@ -7,7 +7,7 @@ use lib.Dec.{eqb, leb, ltb}
 use lib.ListN.{length, take, drop, set}
 use Rattle.ledger.specs.Ledger.{Ledger}
 use Rattle.register.specs.View.{Register, held}
-use Rattle.script.specs.Lines.{Asked, advance, enrolActor, enrolCategory, load, file, engagement, recordOf, unknown, lineOf}
+use Rattle.script.specs.Lines.{Asked, calls, fileOf, engagement, recordOf, unknown, lineOf}
 use Rattle.script.specs.Spans.{cut}
 use Rattle.script.specs.Answers.{lineRoom, answerPut, answerEnd}
 use Rattle.session.specs.Lines.{lineStep}
@@ -62,11 +62,8 @@ next n = (n + 1) % 18446744073709551616
 
 -- where the name of the file starts that a line of so many bytes names: one after the comma before it; 0 where it names none
 abbrev pub nameFrom : ℕ → Asked → ℕ
-nameFrom n (advance day minute) = 0
-nameFrom n (enrolActor code first last) = 0
-nameFrom n (enrolCategory text) = 0
-nameFrom n (load actor category day approved powers) = 0
-nameFrom n (file submitter name) = suc (n - suc (length name))
+nameFrom n (calls c) = 0
+nameFrom n (fileOf submitter name) = suc (n - suc (length name))
 nameFrom n (engagement actor category day s) = 0
 nameFrom n (recordOf asker id) = 0
 nameFrom n unknown = 0
@@ -117,14 +114,14 @@ walk readable body given w (line ∷ ls) =
 pub record NamedIn (line : List ℕ) (from : ℕ) : Type 0 where
   pub inside : from ≤ length line
   pub submitter : List ℕ
-  pub files : lineOf line ≡ file submitter (drop from line)
+  pub files : lineOf line ≡ fileOf submitter (drop from line)
 
 -- the name that is wanted lies in the input, at the end of the next line, which is one that files it
 pub record Named (input : List ℕ) (at from to : ℕ) : Type 0 where
   pub after : from ≤ to
   pub inside : to ≤ length input
   pub submitter : List ℕ
-  pub line : lineOf (cut input at to) ≡ file submitter (cut input from to)
+  pub line : lineOf (cut input at to) ≡ fileOf submitter (cut input from to)
 
 abbrev pub NamedIf : List ℕ → ℕ → Wants → Type 0
 NamedIf input at Input = 0 ≤ at

@@ -2,17 +2,20 @@
 ghost use mathlib.Core.Path.{_≡_};
 ghost use lib.ListN.{drop};
 ghost use Rattle.notification.specs.Reading.{linesIn};
+ghost use Rattle.tables.specs.Tables.{columns, loadColumns};
+ghost use Rattle.register.specs.View.{lent};
 ghost use Rattle.lines.specs.Walking.{stands, hasRoom, walk, Progressed};
 use crate::ends::line_end;
 use register::Head;
-use script::reading::Line;
-use script::reading::read_engagement;
-use script::reading::read_file;
+use script::reading::Kind;
+use script::reading::names_file;
+use script::reading::read_line;
 use script::writing::LINE_ROOM;
 use script::writing::write_answer;
 use session::answering::answer;
 use session::asking::ask;
 use session::asking::engaged;
+use session::asking::only_asks;
 use session::calling::filed;
 use std::num::wrapping_add_u64;
 
@@ -46,25 +49,18 @@ fn has_room(output: &[u8], out: usize) -> bool
     out <= output.len() - LINE_ROOM
 }
 
-// Whether a line begins as one that is a call without a file does: T, A, C or L.
-fn may_call(line: &[u8]) -> bool {
-    if line.len() == 0 {
-        return false;
-    }
-    match line[0] {
-        b'T' | b'A' | b'C' | b'L' => true,
-        _ => false,
-    }
-}
-
 // Answers the lines of the input from a place on that have their LF, and puts their answers behind those that wait in the output. A line
 // that names a file is answered by what was found of it: `given` says whether that is known of the first line, `readable` whether
 // the file can be read, and `body` has its bytes.
 pub fn answer_lines(
     head: Head,
+    statuses: &mut [u8; 256],
+    ids: &mut [u32; 256],
     keys: &mut [u32; 256],
     marks: &mut [[u8; 4]; 256],
     rows: &mut [[u16; 50]; 256],
+    numbers: &mut [u32; 64],
+    approved: &mut [u16; 64],
     loads: &mut [[u16; 50]; 64],
     number: u64,
     input: &[u8],
@@ -76,10 +72,14 @@ pub fn answer_lines(
     body: &[u8],
 ) -> Progress
     ensures { λ r. ⌜
-        (stands (record { head = r .head; columns = record { keys = now (keys .exit); marks = now (marks .exit); rows = now (rows .exit) }; loads = now (loads .exit) })
+        (stands
+        (lent (r .head) (columns (now (statuses .exit)) (now (ids .exit)) (now (keys .exit)) (now (marks .exit)) (now (rows .exit)))
+        (loadColumns (now (numbers .exit)) (now (approved .exit)) (now (loads .exit))))
         (r .number) (r .at) (now (output .exit)) (r .out) (r .wants)
         ≡ walk readable (now (body .entry)) given
-        (stands (record { head = head; columns = record { keys = now (keys .entry); marks = now (marks .entry); rows = now (rows .entry) }; loads = now (loads .entry) })
+        (stands
+        (lent head (columns (now (statuses .entry)) (now (ids .entry)) (now (keys .entry)) (now (marks .entry)) (now (rows .entry)))
+        (loadColumns (now (numbers .entry)) (now (approved .entry)) (now (loads .entry))))
         number at (now (output .entry)) out Wants.Input)
         (linesIn (drop at (now (input .entry)))))
         × Progressed (now (input .entry)) at (now (output .entry)) out r ⌝ }
@@ -101,18 +101,19 @@ pub fn answer_lines(
         }
         let line = &input[at..stop];
         let next = wrapping_add_u64(number, 1);
-        if let Line::Engagement(actor, category, day, step) = read_engagement(line) {
+        let read = read_line(line);
+        let kind = read.kind;
+        if let Kind::Engagement = kind {
             let said = engaged(
                 head,
+                &*statuses,
                 &*keys,
                 &*marks,
                 &*rows,
+                &*numbers,
                 &*loads,
                 line,
-                actor,
-                category,
-                day,
-                step,
+                read,
             );
             out = write_answer(next, said, &mut *output, out);
             number = next;
@@ -120,20 +121,24 @@ pub fn answer_lines(
             given = false;
             continue;
         }
-        if let Line::File(submitter) = read_file(line) {
+        if names_file(kind) {
             if !given {
-                let name = submitter as usize + 1;
+                let name = read.first as usize + 1;
                 wants = Wants::File(at + name, stop);
                 break;
             }
             let turn = filed(
                 head,
+                statuses,
+                ids,
                 keys,
                 marks,
                 rows,
+                &*numbers,
+                &*approved,
                 &*loads,
                 line,
-                submitter,
+                read,
                 readable,
                 body,
             );
@@ -144,17 +149,40 @@ pub fn answer_lines(
             given = false;
             continue;
         }
-        if !may_call(line) {
-            let asking = ask(head, &*keys, &*marks, &*rows, &*loads, line);
-            if asking.asks {
-                out = write_answer(next, asking.said, &mut *output, out);
-                number = next;
-                at = stop + 1;
-                given = false;
-                continue;
-            }
+        if only_asks(read) {
+            let said = ask(
+                head,
+                &*statuses,
+                &*ids,
+                &*keys,
+                &*marks,
+                &*rows,
+                &*numbers,
+                &*loads,
+                line,
+                read,
+            );
+            out = write_answer(next, said, &mut *output, out);
+            number = next;
+            at = stop + 1;
+            given = false;
+            continue;
         }
-        let turn = answer(head, keys, marks, rows, loads, line, readable, body);
+        let turn = answer(
+            head,
+            statuses,
+            ids,
+            keys,
+            marks,
+            rows,
+            numbers,
+            approved,
+            loads,
+            line,
+            read,
+            readable,
+            body,
+        );
         head = turn.head;
         out = write_answer(next, turn.said, &mut *output, out);
         number = next;

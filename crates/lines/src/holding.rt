@@ -1,19 +1,13 @@
 // What is held of an input between two blocks: a line whose end hasn't come yet.
 ghost use mathlib.Core.Path.{_≡_};
-ghost use Prim.Native.Nat.{_≤_, min};
+ghost use Prim.Native.Nat.{_≤_};
 ghost use lib.ListN.{length};
 ghost use lib.Seq.{sets};
 ghost use Rattle.lines.specs.Walking.{heldOf, ended, endedAt};
+use script::parts::least;
 
 // The most bytes of a line, and one more. A line that is too long stays so when the rest of it is forgotten.
 const HELD: usize = 513;
-
-// The lesser of two numbers.
-fn least(a: usize, b: usize) -> usize
-    ensures { λ r. ⌜ r ≡ min a b ⌝ }
-{
-    if a < b { a } else { b }
-}
 
 // Moves the bytes from a place to before another to the front, 513 of them at most, and gives how many they are.
 pub fn hold(input: &mut [u8], from: usize, to: usize) -> usize

@@ -1,35 +1,49 @@
--- A body begins with the header of a name exactly where the parts of the name stand in it, each with its `;`.
+-- A line is the header of a name exactly where the parts of the name stand in it, each with its `;`.
 use mathlib.Core.Path.{_≡_, refl, sym, ap, _∙_}
 use mathlib.Core.Bool.{Bool, true, false, _&&_, _||_}
 use mathlib.Core.List.{List, [], _∷_, _++_, append-assoc}
 use Prim.Native.Nat.{ℕ, suc, _+_, _-_, _<_, _≤_}
 use native.Mathlib.Numerals.{add-one}
 use native.Mathlib.Omega.{arith}
-use lib.Dec.{leb, eqb}
-use lib.ListN.{length, getD, take, drop, length-append, length-take, length-drop}
-use lib.Seq.{take-at, take-all, take-suc, split-at, drop-drop, drop-cons, getD-drop, getD-at, getD-append-add}
-use borrow.Author.Tests.{eqb-true, eqb-false, leb-true, le-leb, lt-leb}
+use lib.Dec.{eqb}
+use lib.ListN.{length, getD, take, drop, length-take, length-drop, drop-of-length-le}
+use lib.Seq.{take-at, take-all, take-suc, drop-drop, getD-drop}
+use borrow.Author.Tests.{eqb-true, eqb-false}
 use Rattle.lists.specs.Searches.{same}
-use Rattle.lists.proofs.Tests.{by-test, and-left, and-right}
-use Rattle.lists.proofs.Searches.{same-refl, same-true}
-use Rattle.lists.proofs.Parts.{drop-past}
+use Rattle.lists.proofs.Tests.{by-test}
+use Rattle.lists.proofs.Parts.{drop-past, rest-all}
 use Rattle.calendar.specs.Texts.{textOf}
 use Rattle.notification.specs.Forms.{categoryText}
 use Rattle.notification.specs.Writing.{keyText, headerOf, formed}
-use Rattle.reader.specs.Parts.{headed}
 use Rattle.notification.specs.declared.Key.{Key}
 use Rattle.notification.proofs.Lengths.{date-length, formed-parts, key-length}
-use Rattle.lists.proofs.Parts.{rest-all}
 
--- ---- two texts of the same length, byte by byte
+-- ---- two texts, part by part
 
-same-more : (s t : List ℕ) (x y : ℕ) → length s ≡ length t → same (s ++ x ∷ []) (t ++ y ∷ []) ≡ (same s t && eqb x y)
+and-end : (b : Bool) → (b && true) ≡ b
+and-end true = refl
+and-end false = refl
+
+and-assoc : (a b c : Bool) → ((a && b) && c) ≡ (a && (b && c))
+and-assoc true b c = refl
+and-assoc false b c = refl
+
+-- of a text and another with a byte in it: the part before the byte, the byte, and what follows it
+same-part : (s p t : List ℕ) (x : ℕ) → length p < length s
+    → same s (p ++ x ∷ t) ≡ (same (take (length p) s) p && (eqb (getD s (length p) 0) x && same (drop (suc (length p)) s) t))
 unfolding same
-same-more [] [] x y e = end (eqb x y)
+same-part [] p t x h = absurd (omega arith)
+same-part (y ∷ s) [] t x h = refl
+same-part (y ∷ s) (z ∷ p) t x h = rest (eqb y z) (same-part s p t x (omega arith))
   where
-    end : (b : Bool) → (b && true) ≡ b
-    end true = refl
-    end false = refl
+    rest : (q : Bool) → same s (p ++ x ∷ t) ≡ (same (take (length p) s) p && (eqb (getD s (length p) 0) x && same (drop (suc (length p)) s) t))
+        → (q && same s (p ++ x ∷ t)) ≡ ((q && same (take (length p) s) p) && (eqb (getD s (length p) 0) x && same (drop (suc (length p)) s) t))
+    rest true e = e
+    rest false e = refl
+
+pub same-more : (s t : List ℕ) (x y : ℕ) → length s ≡ length t → same (s ++ x ∷ []) (t ++ y ∷ []) ≡ (same s t && eqb x y)
+unfolding same
+same-more [] [] x y e = and-end (eqb x y)
 same-more [] (b ∷ t) x y e = absurd (omega arith)
 same-more (a ∷ s) [] x y e = absurd (omega arith)
 same-more (a ∷ s) (b ∷ t) x y e = rest (eqb a b) (same-more s t x y (omega arith))
@@ -52,176 +66,104 @@ alike-all s t i g e h p =
     let b = take-all i t k in
     rw (a, b) at p
 
+-- a part from a place on, and the rest behind the byte after it
+same-at : (s p t : List ℕ) (i n x : ℕ) → length p ≡ n → i + n < length s
+    → same (drop i s) (p ++ x ∷ t) ≡ (same (take n (drop i s)) p && (eqb (getD s (i + n) 0) x && same (drop (i + n + 1) s) t))
+same-at s p t i n x e h =
+    let l : length p < length (drop i s) = rw length-drop (omega arith) in
+    let m : i + suc n ≡ i + n + 1 = omega arith in
+    rw (e, getD-drop i s n 0, drop-drop (suc n) i s, m) at (same-part (drop i s) p t x l)
+
 -- ---- the header of a name
-
--- the four parts in their places, with what follows them
-pub record Heads (k : Key) (by : ℕ) (s more : List ℕ) : Type 0 where
-  pub after-ceder : drop 17 s ≡ k .acquirer ++ by ∷ (textOf (k .day) ++ by ∷ (categoryText (k .category) ++ more))
-  pub after-acquirer : drop 34 s ≡ textOf (k .day) ++ by ∷ (categoryText (k .category) ++ more)
-  pub after-date : drop 43 s ≡ categoryText (k .category) ++ more
-
-abbrev joinedParts : Key → ℕ → List ℕ → List ℕ
-joinedParts k by more = k .ceder ++ by ∷ (k .acquirer ++ by ∷ (textOf (k .day) ++ by ∷ (categoryText (k .category) ++ more)))
-
-heads : (k : Key) (by : ℕ) (s more : List ℕ) → formed k ≡ true → s ≡ joinedParts k by more → Heads k by s more
-heads k by s more f e =
-    let p = formed-parts k f in
-    let c = categoryText (k .category) ++ more in
-    let d = textOf (k .day) ++ by ∷ c in
-    let a = k .acquirer ++ by ∷ d in
-    let d17 : drop 17 s ≡ a = ap (drop 17) e ∙ drop-past (k .ceder) by a 17 (omega arith) in
-    let d34 : drop 34 s ≡ d = sym (drop-drop 17 17 s) ∙ (ap (drop 17) d17 ∙ drop-past (k .acquirer) by d 17 (omega arith)) in
-    let d43 : drop 43 s ≡ c = sym (drop-drop 9 34 s) ∙ (ap (drop 9) d34 ∙ drop-past (textOf (k .day)) by c 9 (omega (arith, date-length (k .day)))) in
-    record { after-ceder = d17; after-acquirer = d34; after-date = d43 }
-
-joined-key : (k : Key) (by : ℕ) (more : List ℕ) → keyText by k ++ more ≡ joinedParts k by more
-joined-key k by more = simp append-assoc
 
 append-nil : (s : List ℕ) → s ≡ s ++ []
 append-nil [] = refl
 append-nil (x ∷ s) = ap (λ (t : List ℕ). x ∷ t) (append-nil s)
 
-module _ (k : Key) (f : formed k ≡ true) (s body : List ℕ) (e : s ≡ keyText 95 k) where
+module _ (k : Key) (f : formed k ≡ true) (s : List ℕ) (e : s ≡ keyText 95 k) where
   abbrev cat : List ℕ
   cat = categoryText (k .category)
 
-  its-length : length s ≡ 43 + length cat
+  pub its-length : length s ≡ 43 + length cat
   its-length = ap length e ∙ key-length 95 k f
 
-  in-name : Heads k 95 s []
-  in-name = heads k 95 s [] f (e ∙ (append-nil (keyText 95 k) ∙ joined-key k 95 []))
+  after-ceder : drop 17 s ≡ k .acquirer ++ 95 ∷ (textOf (k .day) ++ 95 ∷ cat)
+  after-ceder = ap (drop 17) e ∙ drop-past (k .ceder) 95 (k .acquirer ++ 95 ∷ (textOf (k .day) ++ 95 ∷ cat)) 17 (omega (arith, formed-parts k f .ceder-length))
+
+  after-acquirer : drop 34 s ≡ textOf (k .day) ++ 95 ∷ cat
+  after-acquirer = sym (drop-drop 17 17 s) ∙ (ap (drop 17) after-ceder ∙ drop-past (k .acquirer) 95 (textOf (k .day) ++ 95 ∷ cat) 17 (omega (arith, formed-parts k f .acquirer-length)))
+
+  after-date : drop 43 s ≡ cat
+  after-date = sym (drop-drop 9 34 s) ∙ (ap (drop 9) after-acquirer ∙ drop-past (textOf (k .day)) 95 cat 9 (omega (arith, date-length (k .day))))
 
   name-ceder : take 16 s ≡ k .ceder
   name-ceder = ap (take 16) e ∙ take-at (k .ceder) (95 ∷ (k .acquirer ++ 95 ∷ (textOf (k .day) ++ 95 ∷ cat))) 16 (formed-parts k f .ceder-length)
 
   name-acquirer : take 16 (drop 17 s) ≡ k .acquirer
-  name-acquirer = ap (take 16) (in-name .after-ceder) ∙ take-at (k .acquirer) (95 ∷ (textOf (k .day) ++ 95 ∷ (cat ++ []))) 16 (formed-parts k f .acquirer-length)
+  name-acquirer = ap (take 16) after-ceder ∙ take-at (k .acquirer) (95 ∷ (textOf (k .day) ++ 95 ∷ cat)) 16 (formed-parts k f .acquirer-length)
 
   name-date : take 8 (drop 34 s) ≡ textOf (k .day)
-  name-date = ap (take 8) (in-name .after-acquirer) ∙ take-at (textOf (k .day)) (95 ∷ (cat ++ [])) 8 (date-length (k .day))
+  name-date = ap (take 8) after-acquirer ∙ take-at (textOf (k .day)) (95 ∷ cat) 8 (date-length (k .day))
 
   name-category : take (length s - 43) (drop 43 s) ≡ cat
-  name-category = rest-all 43 s ∙ (in-name .after-date ∙ sym (append-nil cat))
+  name-category = rest-all 43 s ∙ after-date
 
-  -- a body that begins with the header is told so
-  pub header-told : (r : List ℕ) → body ≡ headerOf k ++ 10 ∷ r → headed s body ≡ true
-  unfolding headed headerOf
-  header-told r b =
-      let p = formed-parts k f in
-      let more : List ℕ = 59 ∷ 10 ∷ r in
-      let j : body ≡ joinedParts k 59 more = b ∙ simp append-assoc in
-      let q = heads k 59 body more f j in
-      let n = its-length in
-      let lb = ap length j in
-      let l : length s + 2 ≤ length body = omega (arith, date-length (k .day), simp length-append at lb) in
-      let g16 : getD body 16 0 ≡ 59 = ap (λ (u : List ℕ). getD u 16 0) j ∙ getD-at (k .ceder) 59 (k .acquirer ++ 59 ∷ (textOf (k .day) ++ 59 ∷ (cat ++ more))) 0 16 (p .ceder-length) in
-      let g33 : getD body 33 0 ≡ 59 = sym (getD-drop 17 body 16 0) ∙ (ap (λ (u : List ℕ). getD u 16 0) (q .after-ceder) ∙ getD-at (k .acquirer) 59 (textOf (k .day) ++ 59 ∷ (cat ++ more)) 0 16 (p .acquirer-length)) in
-      let g42 : getD body 42 0 ≡ 59 = sym (getD-drop 34 body 8 0) ∙ (ap (λ (u : List ℕ). getD u 8 0) (q .after-acquirer) ∙ getD-at (textOf (k .day)) 59 (cat ++ more) 0 8 (date-length (k .day))) in
-      let m0 : length s ≡ 43 + (length cat + 0) = omega arith in
-      let m1 : length s + 1 ≡ 43 + (length cat + 1) = omega arith in
-      let gn : getD body (length s) 0 ≡ 59 = ap (λ (i : ℕ). getD body i 0) m0 ∙ (sym (getD-drop 43 body (length cat + 0) 0) ∙ (ap (λ (u : List ℕ). getD u (length cat + 0) 0) (q .after-date) ∙ getD-append-add cat more 0 0)) in
-      let gm : getD body (length s + 1) 0 ≡ 10 = ap (λ (i : ℕ). getD body i 0) m1 ∙ (sym (getD-drop 43 body (length cat + 1) 0) ∙ (ap (λ (u : List ℕ). getD u (length cat + 1) 0) (q .after-date) ∙ getD-append-add cat more 1 0)) in
-      let t16 : take 16 body ≡ k .ceder = ap (take 16) j ∙ take-at (k .ceder) (59 ∷ (k .acquirer ++ 59 ∷ (textOf (k .day) ++ 59 ∷ (cat ++ more)))) 16 (p .ceder-length) in
-      let t33 : take 16 (drop 17 body) ≡ k .acquirer = ap (take 16) (q .after-ceder) ∙ take-at (k .acquirer) (59 ∷ (textOf (k .day) ++ 59 ∷ (cat ++ more))) 16 (p .acquirer-length) in
-      let t42 : take 8 (drop 34 body) ≡ textOf (k .day) = ap (take 8) (q .after-acquirer) ∙ take-at (textOf (k .day)) (59 ∷ (cat ++ more)) 8 (date-length (k .day)) in
-      let lc : length cat ≡ length s - 43 = omega arith in
-      let tc : take (length s - 43) (drop 43 body) ≡ cat = ap (take (length s - 43)) (q .after-date) ∙ take-at cat more (length s - 43) lc in
-      rw (le-leb (length s + 2) (length body) l, g16, g33, g42, gn, gm, t16, t33, t42, tc, name-ceder, name-acquirer, name-date, name-category, same-refl (k .ceder), same-refl (k .acquirer), same-refl (textOf (k .day)), same-refl cat)
+  header-joined : headerOf k ≡ k .ceder ++ 59 ∷ (k .acquirer ++ 59 ∷ (textOf (k .day) ++ 59 ∷ (cat ++ 59 ∷ [])))
+  unfolding headerOf
+  header-joined = simp append-assoc
 
-  -- a body that is told so begins with the header
-  pub told-header : headed s body ≡ true → body ≡ headerOf k ++ 10 ∷ drop (length s + 2) body
-  unfolding headed headerOf
-  told-header t =
-      let i0 = eqb (getD body 16 0) 59 in
-      let i1 = eqb (getD body 33 0) 59 in
-      let i2 = eqb (getD body 42 0) 59 in
-      let i3 = eqb (getD body (length s) 0) 59 in
-      let i4 = eqb (getD body (length s + 1) 0) 10 in
-      let i5 = same (take 16 body) (take 16 s) in
-      let i6 = same (take 16 (drop 17 body)) (take 16 (drop 17 s)) in
-      let i7 = same (take 8 (drop 34 body)) (take 8 (drop 34 s)) in
-      let i8 = same (take (length s - 43) (drop 43 body)) (take (length s - 43) (drop 43 s)) in
-      let lg = leb (length s + 2) (length body) in
-      let l = leb-true (length s + 2) (length body) (and-left lg (i0 && i1 && i2 && i3 && i4 && i5 && i6 && i7 && i8) t) in
-      let u8 = and-right lg (i0 && i1 && i2 && i3 && i4 && i5 && i6 && i7 && i8) t in
-      let u7 = and-left (i0 && i1 && i2 && i3 && i4 && i5 && i6 && i7) i8 u8 in
-      let u6 = and-left (i0 && i1 && i2 && i3 && i4 && i5 && i6) i7 u7 in
-      let u5 = and-left (i0 && i1 && i2 && i3 && i4 && i5) i6 u6 in
-      let u4 = and-left (i0 && i1 && i2 && i3 && i4) i5 u5 in
-      let u3 = and-left (i0 && i1 && i2 && i3) i4 u4 in
-      let u2 = and-left (i0 && i1 && i2) i3 u3 in
-      let u1 = and-left (i0 && i1) i2 u2 in
-      let n = its-length in
-      let g0 = eqb-true (getD body 16 0) 59 (and-left i0 i1 u1) in
-      let g1 : getD (drop 17 body) 16 0 ≡ 59 = getD-drop 17 body 16 0 ∙ eqb-true (getD body 33 0) 59 (and-right i0 i1 u1) in
-      let g2 : getD (drop 34 body) 8 0 ≡ 59 = getD-drop 34 body 8 0 ∙ eqb-true (getD body 42 0) 59 (and-right (i0 && i1) i2 u2) in
-      let m : 43 + (length s - 43) ≡ length s = omega arith in
-      let g3 : getD (drop 43 body) (length s - 43) 0 ≡ 59 = getD-drop 43 body (length s - 43) 0 ∙ (ap (λ (i : ℕ). getD body i 0) m ∙ eqb-true (getD body (length s) 0) 59 (and-right (i0 && i1 && i2) i3 u3)) in
-      let g4 = eqb-true (getD body (length s + 1) 0) 10 (and-right (i0 && i1 && i2 && i3) i4 u4) in
-      let c0 = same-true (take 16 body) (take 16 s) (and-right (i0 && i1 && i2 && i3 && i4) i5 u5) ∙ name-ceder in
-      let c1 = same-true (take 16 (drop 17 body)) (take 16 (drop 17 s)) (and-right (i0 && i1 && i2 && i3 && i4 && i5) i6 u6) ∙ name-acquirer in
-      let c2 = same-true (take 8 (drop 34 body)) (take 8 (drop 34 s)) (and-right (i0 && i1 && i2 && i3 && i4 && i5 && i6) i7 u7) ∙ name-date in
-      let c3 = same-true (take (length s - 43) (drop 43 body)) (take (length s - 43) (drop 43 s)) (and-right (i0 && i1 && i2 && i3 && i4 && i5 && i6 && i7) i8 u8) ∙ name-category in
-      let l1 : 16 < length (drop 17 body) = rw length-drop (omega arith) in
-      let l2 : 8 < length (drop 34 body) = rw length-drop (omega arith) in
-      let l3 : length s - 43 < length (drop 43 body) = rw length-drop (omega arith) in
-      let e0 : body ≡ k .ceder ++ 59 ∷ drop 17 body = rw (c0, g0) at (split-at body 16 0 (omega arith)) in
-      let e1 : drop 17 body ≡ k .acquirer ++ 59 ∷ drop 34 body = rw (c1, g1, drop-drop 17 17 body) at (split-at (drop 17 body) 16 0 l1) in
-      let e2 : drop 34 body ≡ textOf (k .day) ++ 59 ∷ drop 43 body = rw (c2, g2, drop-drop 9 34 body) at (split-at (drop 34 body) 8 0 l2) in
-      let m5 : 43 + suc (length s - 43) ≡ length s + 1 = omega arith in
-      let m6 : suc (length s + 1) ≡ length s + 2 = omega arith in
-      let e3 : drop 43 body ≡ cat ++ 59 ∷ drop (length s + 1) body = rw (c3, g3, drop-drop (suc (length s - 43)) 43 body, m5) at (split-at (drop 43 body) (length s - 43) 0 l3) in
-      let e4 : drop (length s + 1) body ≡ 10 ∷ drop (length s + 2) body = rw (g4, m6) at (drop-cons body (length s + 1) 0 (omega arith)) in
-      let w : body ≡ joinedParts k 59 (59 ∷ 10 ∷ drop (length s + 2) body) = e0 ∙ ap (λ (r : List ℕ). k .ceder ++ 59 ∷ r) (e1 ∙ ap (λ (r : List ℕ). k .acquirer ++ 59 ∷ r) (e2 ∙ ap (λ (r : List ℕ). textOf (k .day) ++ 59 ∷ r) (e3 ∙ ap (λ (r : List ℕ). cat ++ 59 ∷ r) e4))) in
-      w ∙ sym (simp append-assoc)
+  module _ (line : List ℕ) (n : length line ≡ length s + 1) where
+    -- the four parts, each with its `;`
+    header-parts : same line (headerOf k)
+        ≡ (same (take 16 line) (take 16 s) && (eqb (getD line 16 0) 59
+        && (same (take 16 (drop 17 line)) (take 16 (drop 17 s)) && (eqb (getD line 33 0) 59
+        && (same (take 8 (drop 34 line)) (take 8 (drop 34 s)) && (eqb (getD line 42 0) 59
+        && (same (take (length s - 43) (drop 43 line)) (take (length s - 43) (drop 43 s)) && (eqb (getD line (length s) 0) 59 && true))))))))
+    unfolding same
+    header-parts =
+        let p = formed-parts k f in
+        let l = its-length in
+        let m = length s - 43 in
+        let c : length cat ≡ m = omega arith in
+        let at : 43 + m ≡ length s = omega arith in
+        let over : length line ≤ length s + 1 = omega arith in
+        let third : List ℕ = cat ++ 59 ∷ [] in
+        let second : List ℕ = textOf (k .day) ++ 59 ∷ third in
+        let first : List ℕ = k .acquirer ++ 59 ∷ second in
+        let q0 = same-at line (k .ceder) first 0 16 59 (p .ceder-length) (omega arith) in
+        let q1 = same-at line (k .acquirer) second 17 16 59 (p .acquirer-length) (omega arith) in
+        let q2 = same-at line (textOf (k .day)) third 34 8 59 (date-length (k .day)) (omega arith) in
+        let q3 = rw (at, drop-of-length-le line over) at (same-at line cat [] 43 m 59 c (omega arith)) in
+        ap (same line) header-joined ∙ (q0 ∙ rw (q1, q2, q3, name-ceder, name-acquirer, name-date, name-category))
 
--- ---- the tests of a body's beginning, as a reader makes them
+    -- the five or six bytes of a category
+    category-same : 48 ≤ length s → length s ≤ 49
+        → (same (take 5 (drop 43 line)) (take 5 (drop 43 s)) && (eqb (length s) 48 || eqb (getD line 48 0) (getD s 48 0)))
+        ≡ same (take (length s - 43) (drop 43 line)) (take (length s - 43) (drop 43 s))
+    category-same h g =
+        by-test (eqb (length s) 48)
+        (λ t. let z = eqb-true (length s) 48 t in
+        let m : length s - 43 ≡ 5 = omega arith in
+        rw (t, m) (and-end (same (take 5 (drop 43 line)) (take 5 (drop 43 s)))))
+        (λ t. let z = eqb-false (length s) 48 t in
+        let o : length s ≡ 49 = long z in
+        let m : length s - 43 ≡ 5 + 1 = omega arith in
+        let ls : 5 < length (drop 43 s) = rw length-drop (omega arith) in
+        let ll : 5 < length (drop 43 line) = rw length-drop (omega arith) in
+        let ps : length (take 5 (drop 43 line)) ≡ length (take 5 (drop 43 s)) = rw (length-take, length-take) (omega arith) in
+        let q = same-more (take 5 (drop 43 line)) (take 5 (drop 43 s)) (getD (drop 43 line) 5 0) (getD (drop 43 s) 5 0) ps in
+        let gl = getD-drop 43 line 5 0 in
+        let gs = getD-drop 43 s 5 0 in
+        rw (t, m, add-one, take-suc (drop 43 line) 5 0 ll, take-suc (drop 43 s) 5 0 ls) (rw (← gl, ← gs) (sym q)))
+      where
+        long : (length s ≡ 48 → ⊥) → length s ≡ 49
+        long z = omega arith
 
-pub headed-long : (s body : List ℕ) → headed s body ≡ true → length s + 2 ≤ length body
-unfolding headed
-headed-long s body t = leb-true (length s + 2) (length body) (and-left (leb (length s + 2) (length body)) _ t)
-
-pub headed-short : (s body : List ℕ) → length body < length s + 2 → false ≡ headed s body
-unfolding headed
-headed-short s body h = rw (lt-leb (length s + 2) (length body) h)
-
--- the five or six bytes of a category
-category-same : (s body : List ℕ) → 48 ≤ length s → length s ≤ 49 → length s ≤ length body
-    → (same (take 5 (drop 43 body)) (take 5 (drop 43 s)) && (eqb (length s) 48 || eqb (getD body 48 0) (getD s 48 0)))
-    ≡ same (take (length s - 43) (drop 43 body)) (take (length s - 43) (drop 43 s))
-category-same s body h k l =
-    by-test (eqb (length s) 48)
-    (λ t. let e = eqb-true (length s) 48 t in
-    let n : length s - 43 ≡ 5 = omega arith in
-    rw (t, n) (and-end (same (take 5 (drop 43 body)) (take 5 (drop 43 s)))))
-    (λ t. let f = eqb-false (length s) 48 t in
-    let m : length s ≡ 49 = long f in
-    let n : length s - 43 ≡ 5 + 1 = omega arith in
-    let ls : 5 < length (drop 43 s) = rw length-drop (omega arith) in
-    let lb : 5 < length (drop 43 body) = rw length-drop (omega arith) in
-    let ps : length (take 5 (drop 43 body)) ≡ length (take 5 (drop 43 s)) = rw (length-take, length-take) (omega arith) in
-    let q = same-more (take 5 (drop 43 body)) (take 5 (drop 43 s)) (getD (drop 43 body) 5 0) (getD (drop 43 s) 5 0) ps in
-    let gb = getD-drop 43 body 5 0 in
-    let gs = getD-drop 43 s 5 0 in
-    rw (t, n, add-one, take-suc (drop 43 body) 5 0 lb, take-suc (drop 43 s) 5 0 ls) (rw (← gb, ← gs) (sym q)))
-  where
-    long : (length s ≡ 48 → ⊥) → length s ≡ 49
-    long f = omega arith
-
-    and-end : (b : Bool) → (b && true) ≡ b
-    and-end true = refl
-    and-end false = refl
-
-and-assoc : (a b c : Bool) → ((a && b) && c) ≡ (a && (b && c))
-and-assoc true b c = refl
-and-assoc false b c = refl
-
-pub headed-rest : (s body : List ℕ) (t u v w : Bool) (x : ℕ) → 48 ≤ length s → length s ≤ 49 → length s + 2 ≤ length body → t ≡ same (take 16 body) (take 16 s) → u ≡ same (take 16 (drop 17 body)) (take 16 (drop 17 s))
-    → v ≡ same (take 8 (drop 34 body)) (take 8 (drop 34 s)) → w ≡ same (take 5 (drop 43 body)) (take 5 (drop 43 s)) → x ≡ getD s 48 0
-    → (eqb (getD body 16 0) 59 && eqb (getD body 33 0) 59 && eqb (getD body 42 0) 59 && eqb (getD body (length s) 0) 59 && eqb (getD body (length s + 1) 0) 10 && t && u && v && w && (eqb (length s) 48 || eqb (getD body 48 0) x)) ≡ headed s body
-unfolding headed
-headed-rest s body t u v w x a b h p q r o z =
-    let m = category-same s body a b (omega arith) in
-    let front = eqb (getD body 16 0) 59 && eqb (getD body 33 0) 59 && eqb (getD body 42 0) 59 && eqb (getD body (length s) 0) 59 && eqb (getD body (length s + 1) 0) 10 && t && u && v in
-    rw (le-leb (length s + 2) (length body) h, ← m)
-    (and-assoc front w (eqb (length s) 48 || eqb (getD body 48 0) x) ∙ rw (p, q, r, o, z))
+    pub same-rest : 48 ≤ length s → length s ≤ 49 → (t u v w : Bool) (x : ℕ)
+        → t ≡ same (take 16 line) (take 16 s) → u ≡ same (take 16 (drop 17 line)) (take 16 (drop 17 s))
+        → v ≡ same (take 8 (drop 34 line)) (take 8 (drop 34 s)) → w ≡ same (take 5 (drop 43 line)) (take 5 (drop 43 s)) → x ≡ getD s 48 0
+        → (t && eqb (getD line 16 0) 59 && u && eqb (getD line 33 0) 59 && v && eqb (getD line 42 0) 59 && w && (eqb (length s) 48 || eqb (getD line 48 0) x) && eqb (getD line (length s) 0) 59)
+        ≡ same line (headerOf k)
+    same-rest h g t u v w x a b c d z =
+        let m = category-same h g in
+        rw (header-parts, ← m, a, b, c, d, z) (simp (and-assoc, and-end))

@@ -9,5 +9,9 @@ pub mod Sixes
 pub mod KeyParts
 pub mod Frames
 pub mod Headers
+pub mod NameHeaders
 pub mod Table
 pub mod Marking
+pub mod GoodLines
+pub mod Pieces
+pub mod Heading

@@ -1,33 +1,21 @@
--- A line that begins with the marks of its step's two boundaries begins with their labels, and is taken as its power.
+-- A line that begins with the marks of its step's two boundaries begins with their labels.
 use mathlib.Core.Path.{_≡_, refl, sym, ap, _∙_}
-use mathlib.Core.Bool.{Bool, true, false, not, _&&_, _||_}
-use mathlib.Core.List.{List, [], _∷_, _++_, append-assoc}
-use Prim.Native.Nat.{ℕ, suc, _+_, _-_, _*_, _/_, _%_, _<_, _≤_, min}
-use native.Mathlib.Nat.{add-zero}
-use native.Mathlib.Numerals.{add-one}
+use mathlib.Core.Bool.{Bool, true, false, _&&_}
+use mathlib.Core.List.{List, [], _∷_, _++_}
+use Prim.Native.Nat.{ℕ, _+_, _-_, _*_, _/_, _%_, _<_, _≤_}
 use native.Mathlib.Omega.{arith}
 use lib.Dec.{leb, ltb, eqb}
-use lib.ListN.{length, getD, drop, set, length-drop, take-append-drop, List·getD-eq-default}
-use lib.Seq.{drop-drop, drop-cons, getD-drop}
-use borrow.Author.Tests.{eqb-true, eqb-false, ne-eqb, lt-ltb, le-ltb, lt-leb, ltb-true, ltb-false}
+use lib.ListN.{length, getD, List·getD-eq-default}
+use borrow.Author.Tests.{eqb-true, lt-ltb, le-ltb, lt-leb, ltb-true, ltb-false}
 use Rattle.lists.proofs.Tests.{by-test, and-left, and-right}
 use Rattle.lists.proofs.Tests.{true-of}
 use Rattle.lists.proofs.Below.{below}
 use Rattle.calendar.specs.Steps.{plainSteps, stepMinutes}
 use Rattle.calendar.specs.Labels.{turnOf, minuteOf, againAt, labelOf}
-use Rattle.refusals.specs.declared.Verdict.{Verdict}
-use Rattle.refusals.specs.declared.Verdict.the-variants.{Pass}
-use Rattle.notification.specs.Forms.{powerEnd, places}
-use Rattle.notification.specs.Writing.{labelText, labelsText, powerText}
-use Rattle.notification.specs.Reading.{linesIn, hasLabels, restOf, isPower}
-use Rattle.reader.specs.Walking.{sixAt, six, noMark, timeMark, timesText, halfHours, markOf, Plain, powerOf, LineAt, Taken, takeLine, takeLines}
+use Rattle.notification.specs.Forms.{places}
+use Rattle.notification.specs.Writing.{labelText}
+use Rattle.reader.specs.Walking.{sixAt, six, noMark, timeMark, timesText, halfHours, markOf, Plain, powerOf, LineAt}
 use Rattle.reader.specs.declared.power.Power.the-variants.{Is}
-use Rattle.reader.specs.declared.tally.Tally.{Tally}
-use Rattle.notification.proofs.Lines.{lines-first}
-use Rattle.notification.proofs.Breaks.{line-in}
-use Rattle.notification.proofs.Steps.{lineOf, line-made, line-value}
-use Rattle.reader.proofs.Figures.{powerIn, power-sound}
-use Rattle.reader.proofs.Tallies.{line-good, takes-cons, or-zero, or-none}
 
 -- ---- the marks, as a reader makes them
 
@@ -54,9 +42,6 @@ never t i =
     by-test (ltb i t)
     (λ u. let h = ltb-true i t u in rw (lt-leb t i h))
     (λ u. rw u (and-false (leb t i)))
-
-time-small : (j : ℕ) → j < 49 → timeMark j < noMark
-time-small j h = omega arith
 
 module _ (steps at t : ℕ) (p : t ≡ turnOf steps) where
   pub half-before : at < t → at ≡ halfHours steps at
@@ -147,19 +132,6 @@ table-mark steps k r i j p a b e =
     let s = p .small in
     ap (sixAt timesText) e ∙ (time-marks (halfHours steps k + (i - k)) (omega arith) ∙ sym (p .marks i a b))
 
--- a sum is 0 where both parts are
-pub sum-zero : (a : Bool) (s v : ℕ) → ((a || not (eqb s 0)) || not (eqb v 0)) ≡ (a || not (eqb (s + v) 0))
-sum-zero a s v = or-zero a (eqb s 0) (eqb v 0) ∙ ap (λ (b : Bool). a || not b) (sym both)
-  where
-    both : eqb (s + v) 0 ≡ (eqb s 0 && eqb v 0)
-    both =
-        by-test (eqb s 0)
-        (λ t. let e = eqb-true s 0 t in
-        let n : s + v ≡ v = omega arith in
-        rw (n, t))
-        (λ t. let f = eqb-false s 0 t in
-        rw (ne-eqb (s + v) 0 (λ (z : s + v ≡ 0). f (omega arith)), t))
-
 -- ---- numbers of bytes
 
 -- two numbers alike, by their last byte and the rest
@@ -204,7 +176,7 @@ same-twelve a b c d e f g h i j k l a' b' c' d' e' f' g' h' i' j' k' l' r s r' s
 abbrev fourAt : List ℕ → ℕ → ℕ
 fourAt s a = getD s a 0 + 256 * (getD s (a + 1) 0 + 256 * (getD s (a + 2) 0 + 256 * getD s (a + 3) 0))
 
-bytes-at : (s : List ℕ) (a : ℕ) → ((j : ℕ) → getD s j 0 < 256) → Bytes (getD s a 0) (getD s (a + 1) 0) (getD s (a + 2) 0) (getD s (a + 3) 0) (getD s (a + 4) 0) (getD s (a + 5) 0)
+pub bytes-at : (s : List ℕ) (a : ℕ) → ((j : ℕ) → getD s j 0 < 256) → Bytes (getD s a 0) (getD s (a + 1) 0) (getD s (a + 2) 0) (getD s (a + 3) 0) (getD s (a + 4) 0) (getD s (a + 5) 0)
 bytes-at s a h = record { b0 = h a; b1 = h (a + 1); b2 = h (a + 2); b3 = h (a + 3); b4 = h (a + 4); b5 = h (a + 5) }
 
 middle : (s : List ℕ) (a : ℕ) → fourAt s (a + 4) ≡ getD s (a + 4) 0 + 256 * (getD s (a + 5) 0 + 256 * (getD s (a + 6) 0 + 256 * getD s (a + 6 + 1) 0))
@@ -312,95 +284,3 @@ line-at s at from until v n b h m p q e =
 pub as-marks : {s : List ℕ} {at v n a b c d : ℕ} → a ≡ c → b ≡ d → LineAt s at a b v n → LineAt s at c d v n
 as-marks e f l =
     record { bytes = l .bytes; first = l .first ∙ e; second = l .second ∙ f; power = l .power; break = l .break; more = l .more; within = l .within }
-
--- ---- its text
-
-six-split : (s : List ℕ) → 6 ≤ length s → s ≡ (getD s 0 0 ∷ getD s 1 0 ∷ getD s 2 0 ∷ getD s 3 0 ∷ getD s 4 0 ∷ getD s 5 0 ∷ []) ++ drop 6 s
-six-split (a ∷ b ∷ c ∷ d ∷ e ∷ f ∷ s) h = refl
-six-split [] h = absurd (omega arith)
-six-split (a ∷ []) h = absurd (omega arith)
-six-split (a ∷ b ∷ []) h = absurd (omega arith)
-six-split (a ∷ b ∷ c ∷ []) h = absurd (omega arith)
-six-split (a ∷ b ∷ c ∷ d ∷ []) h = absurd (omega arith)
-six-split (a ∷ b ∷ c ∷ d ∷ e ∷ []) h = absurd (omega arith)
-
--- six bytes at a place that are a mark are its label
-six-label : (s : List ℕ) (i steps at : ℕ) → i + 6 ≤ length s → ((j : ℕ) → getD s j 0 < 256) → at ≤ steps → steps ≤ places
-    → sixAt s i ≡ markOf steps at
-    → drop i s ≡ (labelText steps at ++ 59 ∷ []) ++ drop (i + 6) s
-six-label s i steps at l h g k m =
-    let n : 6 ≤ length (drop i s) = rw length-drop (omega arith) in
-    let b = bytes-at s i h in
-    let t = label-mark steps at (getD s i 0) (getD s (i + 1) 0) (getD s (i + 2) 0) (getD s (i + 3) 0) (getD s (i + 4) 0) (getD s (i + 5) 0) g k b m in
-    let u = rw (getD-drop i s 0 0, getD-drop i s 1 0, getD-drop i s 2 0, getD-drop i s 3 0, getD-drop i s 4 0, getD-drop i s 5 0, add-zero, drop-drop 6 i s) at (six-split (drop i s) n) in
-    u ∙ ap (λ (r : List ℕ). r ++ drop (i + 6) s) t
-
--- a good line of the step at hand
-good-taken : (steps : ℕ) (t : Tally) (ps s : List ℕ) (at : ℕ) (r : List ℕ) (v : ℕ) → t .verdict ≡ Pass → t .lines < steps
-    → drop at s ≡ lineOf steps (t .lines) v ++ (10 ∷ r) → steps ≤ places → v < powerEnd
-    → takeLines steps (record { tally = t; powers = ps }) (linesIn (drop at s))
-    ≡ takeLines steps (record { tally = record { lines = t .lines + 1; verdict = t .verdict; any = t .any || not (eqb v 0) }; powers = set ps (t .lines) v }) (linesIn r)
-good-taken steps t ps s at r v p h e g b =
-    let k = t .lines in
-    let l = lineOf steps k v in
-    let x : Taken = record { tally = t; powers = ps } in
-    let o = line-made steps k v b in
-    let a = and-left (hasLabels steps k l) (isPower (restOf steps k l)) o in
-    let c = and-right (hasLabels steps k l) (isPower (restOf steps k l)) o in
-    let w = line-value steps k v b in
-    let m : min (k + 1) 51 ≡ k + 1 = omega arith in
-    let y : takeLine steps x l ≡ record { tally = record { lines = k + 1; verdict = t .verdict; any = t .any || not (eqb v 0) }; powers = set ps k v } = rw (w, m) at (line-good steps x l p h a c) in
-    ap (λ (u : List ℕ). takeLines steps x (linesIn u)) e
-    ∙ (ap (λ (u : List (List ℕ)). takeLines steps x u) (lines-first l r (line-in steps k v))
-    ∙ takes-cons steps x (record { tally = record { lines = k + 1; verdict = t .verdict; any = t .any || not (eqb v 0) }; powers = set ps k v }) l (linesIn r) y)
-
-module _ (steps k : ℕ) (s : List ℕ) (at v n : ℕ) (h : k < steps) (g : steps ≤ places) (l : LineAt s at (markOf steps k) (markOf steps (k + 1)) v n) where
-  power-here : powerIn (drop (at + 12) s) ≡ Is v (n - 13)
-  power-here =
-      rw (getD-drop (at + 12) s 0 0, getD-drop (at + 12) s 1 0, getD-drop (at + 12) s 2 0, getD-drop (at + 12) s 3 0, getD-drop (at + 12) s 4 0, add-zero (at + 12))
-      (sym (l .power))
-
-  pub power-small : v < powerEnd
-  power-small = power-sound (drop (at + 12) s) v (n - 13) power-here .0
-
-  after-power : drop (at + 12) s ≡ powerText v ++ (10 ∷ drop (at + n) s)
-  after-power =
-      let p = power-sound (drop (at + 12) s) v (n - 13) power-here in
-      let m = l .more in
-      let w = l .within in
-      let i : at + 12 + (n - 13) ≡ at + n - 1 = omega arith in
-      let j : suc (at + n - 1) ≡ at + n = omega arith in
-      let d : drop (n - 13) (drop (at + 12) s) ≡ 10 ∷ drop (at + n) s = drop-drop (n - 13) (at + 12) s ∙ (ap (λ (o : ℕ). drop o s) i ∙ rw (l .break, j) at (drop-cons s (at + n - 1) 0 (omega arith))) in
-      sym (take-append-drop (n - 13) (drop (at + 12) s)) ∙ (ap (λ (r : List ℕ). r ++ drop (n - 13) (drop (at + 12) s)) (p .2) ∙ ap (λ (r : List ℕ). powerText v ++ r) d)
-
-  its-text : drop at s ≡ lineOf steps k v ++ (10 ∷ drop (at + n) s)
-  unfolding labelsText
-  its-text =
-      let m = l .more in
-      let w = l .within in
-      let q6 : at + 6 + 6 ≡ at + 12 = omega arith in
-      let a = six-label s at steps k (omega arith) (l .bytes) (omega arith) g (l .first) in
-      let b = six-label s (at + 6) steps (k + 1) (omega arith) (l .bytes) (omega arith) g (l .second) in
-      let c : drop (at + 6) s ≡ (labelText steps (suc k) ++ 59 ∷ []) ++ drop (at + 12) s = rw (q6, add-one k) at b in
-      a ∙ (ap (λ (r : List ℕ). (labelText steps k ++ 59 ∷ []) ++ r) (c ∙ ap (λ (r : List ℕ). (labelText steps (suc k) ++ 59 ∷ []) ++ r) after-power) ∙ simp append-assoc)
-
-  -- the line is taken at once
-  pub take-good : (t : Tally) (ps : List ℕ) → t .verdict ≡ Pass → t .lines ≡ k
-      → takeLines steps (record { tally = t; powers = ps }) (linesIn (drop at s))
-      ≡ takeLines steps (record { tally = record { lines = k + 1; verdict = t .verdict; any = t .any || not (eqb v 0) }; powers = set ps k v }) (linesIn (drop (at + n) s))
-  take-good t ps p q = good-taken steps t ps s at (drop (at + n) s) v p (rw q h) (rw q its-text) g power-small ∙ rw q
-
-  -- the same, where whether a power was not 0 is told by a sum
-  pub take-summed : (w : Verdict) (a : Bool) (sum : ℕ) (ps : List ℕ) → w ≡ Pass
-      → takeLines steps (record { tally = record { lines = k; verdict = w; any = a || not (eqb sum 0) }; powers = ps }) (linesIn (drop at s))
-      ≡ takeLines steps (record { tally = record { lines = k + 1; verdict = w; any = a || not (eqb (sum + v) 0) }; powers = set ps k v }) (linesIn (drop (at + n) s))
-  take-summed w a sum ps p =
-      take-good (record { lines = k; verdict = w; any = a || not (eqb sum 0) }) ps p refl
-      ∙ ap (λ (b : Bool). takeLines steps (record { tally = record { lines = k + 1; verdict = w; any = b }; powers = set ps k v }) (linesIn (drop (at + n) s))) (sum-zero a sum v)
-
--- before the first power the sum is 0
-pub none-summed : (steps : ℕ) (t : Tally) (ps : List ℕ) (ls : List (List ℕ))
-    → takeLines steps (record { tally = t; powers = ps }) ls
-    ≡ takeLines steps (record { tally = record { lines = t .lines; verdict = t .verdict; any = t .any || not (eqb 0 0) }; powers = ps }) ls
-none-summed steps t ps ls =
-    ap (λ (b : Bool). takeLines steps (record { tally = record { lines = t .lines; verdict = t .verdict; any = b }; powers = ps }) ls) (or-none (t .any))

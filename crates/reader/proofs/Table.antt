@@ -6,36 +6,34 @@ use Prim.Native.Nat.{ℕ, _+_, _-_, _<_, _≤_, min}
 use native.Mathlib.Nat.{zero-add}
 use native.Mathlib.Omega.{arith}
 use lib.Dec.{ltb, leb, eqb}
-use lib.ListN.{length, getD, take, drop, replicate, length-append, length-take, length-drop}
-use lib.Seq.{take-all, take-at}
-use borrow.Author.Tests.{eqb-true, eqb-false, eq-eqb, ne-eqb, ltb-true, ltb-false, lt-ltb, le-ltb}
-use Rattle.lists.specs.Searches.{every, same}
-use Rattle.lists.proofs.Tests.{by-test, true-false, and-left, and-right}
-use Rattle.lists.proofs.Searches.{same-refl, same-true, every-at}
+use lib.ListN.{length, getD, take, drop, replicate, length-append}
+use lib.Seq.{take-at}
+use borrow.Author.Tests.{eqb-true, eqb-false, eq-eqb, ne-eqb, ltb-true, lt-ltb, le-ltb}
+use Rattle.lists.specs.Searches.{same}
+use Rattle.lists.proofs.Tests.{by-test, true-false, and-left, and-right, and-true}
+use Rattle.lists.proofs.Searches.{same-refl}
 use Rattle.calendar.specs.Steps.{stepsOf}
 use Rattle.calendar.proofs.StepCounts.{steps-small}
 use Rattle.refusals.specs.Tests.{Test, input, firstMet, decide}
 use Rattle.refusals.specs.declared.Refusal.{Refusal}
 use Rattle.refusals.specs.declared.Refusal.the-variants.{Input}
 use Rattle.refusals.specs.declared.InputRefusal.the-variants.{Name, Body, Header, Differs, Lines, Zeros}
+use Rattle.refusals.specs.declared.Verdict.{Verdict}
 use Rattle.refusals.specs.declared.Verdict.the-variants.{Pass, No}
 use Rattle.notification.specs.Forms.{inPlaces, places, allZero}
 use Rattle.notification.specs.Writing.{nameOf, headerOf, keyText, formed}
-use Rattle.notification.specs.Reading.{nameKey, isName, isHeader, linesIn, isBody, bodyMost, headLine, stepLines, firstBad, lineRefusal, powersIn, fileTests, noteIn, accepted, refused, readFile}
-use Rattle.reader.specs.Parts.{found, noKey, nameRead, headed, otherHeader}
-use Rattle.reader.specs.Walking.{Taken, LineEnd, noLines, takeLines, judgement}
+use Rattle.notification.specs.Reading.{keyIn, nameKey, validKey, isName, isHeader, linesIn, isBody, bodyMost, headLine, stepLines, firstBad, lineRefusal, powersIn, fileTests, noteIn, accepted, refused, readFile}
+use Rattle.reader.specs.Parts.{isKey, found, noKey, nameRead, headerVerdict}
+use Rattle.reader.specs.Folding.{Taken, FileTaken, noSteps, noLines, takeSteps, takeLine, takeLines, judgement, concluded, linesRead}
 use Rattle.notification.specs.declared.Key.{Key}
 use Rattle.notification.specs.declared.Reading.{Reading}
 use Rattle.reader.specs.declared.keys.KeyRead.{KeyRead}
 use Rattle.reader.specs.declared.tally.Tally.{Tally}
-use Rattle.notification.proofs.Lines.{inLine, joined, lines-first}
+use Rattle.notification.proofs.Lines.{joined, joined-lines}
 use Rattle.notification.proofs.Lengths.{formed-parts, name-length}
-use Rattle.notification.proofs.Breaks.{header-in}
-use Rattle.notification.proofs.Names.{name-back, header-made}
-use Rattle.notification.proofs.Bodies.{body-back}
+use Rattle.notification.proofs.Names.{name-back}
 use Rattle.notification.proofs.Steps.{powers-length}
-use Rattle.reader.proofs.Ends.{lines-here}
-use Rattle.reader.proofs.Headers.{header-told, told-header, headed-long}
+use Rattle.reader.proofs.Heading.{concluded-no, concluded-pass}
 use Rattle.reader.proofs.Tallies.{lines-counted, lines-kept, verdictFrom, verdict-table, sets-places}
 
 -- ---- a body
@@ -48,40 +46,22 @@ pub body-rest : (body : List ℕ) → 1 ≤ length body → (leb (length body) b
 unfolding isBody
 body-rest body h = let l : 0 < length body = omega arith in rw (lt-ltb 0 (length body) l)
 
--- ---- the first line of a body
+-- a body has a first line, and the lines after it
+parted-lines : (body : List ℕ) (ls : List (List ℕ)) → joined ls ≡ body → 0 < length body → ls ≡ getD ls 0 [] ∷ drop 1 ls
+unfolding joined
+parted-lines body [] e h = absurd (omega (arith, ap length e))
+parted-lines body (l ∷ ls) e h = refl
 
-module _ (body : List ℕ) (b : isBody body ≡ true) (r : ℕ) (e : LineEnd body 0 r) where
-  last-break : getD body (length body - 1) 0 ≡ 10
-  unfolding isBody
-  last-break = eqb-true (getD body (length body - 1) 0) 10 (and-right (ltb 0 (length body) && leb (length body) bodyMost) (eqb (getD body (length body - 1) 0) 10) b)
+body-lines : (body : List ℕ) → isBody body ≡ true → linesIn body ≡ headLine body ∷ stepLines body
+unfolding isBody headLine stepLines
+body-lines body b =
+    let a = ltb 0 (length body) in
+    let c = leb (length body) bodyMost in
+    let d = eqb (getD body (length body - 1) 0) 10 in
+    let h = ltb-true 0 (length body) (and-left a c (and-left (a && c) d b)) in
+    parted-lines body (linesIn body) (joined-lines body (eqb-true (getD body (length body - 1) 0) 10 (and-right (a && c) d b))) h
 
-  some-byte : 0 < length body
-  unfolding isBody
-  some-byte =
-      let a = ltb 0 (length body) in
-      let c = leb (length body) bodyMost in
-      ltb-true 0 (length body) (and-left a c (and-left (a && c) (eqb (getD body (length body - 1) 0) 10) b))
-
-  pub first-ends : r < length body
-  first-ends =
-      by-test (ltb r (length body)) (λ t. ltb-true r (length body) t)
-      (λ t. let l : length body ≤ r - 0 = omega (arith, ltb-false r (length body) t) in
-      let n : every inLine body ≡ true = rw (take-all (r - 0) body l) at (e .no-break) in
-      let s = some-byte in
-      let i : inLine (getD body (length body - 1) 0) ≡ true = every-at inLine body (length body - 1) 0 n (omega arith) in
-      true-false (inLine 10) (rw last-break at i) refl)
-
-  pub first-line : take (r - 0) body ≡ headLine body
-  unfolding headLine
-  first-line = rw (lines-here body 0 r e first-ends)
-
-  pub other-header : (h : Bool) → h ≡ isHeader (take (r - 0) body) → h ≡ true → refused (Input Differs 1) ≡ otherHeader body
-  other-header h p q = let f = first-line in rw (← f, ← p, q)
-
-  pub no-header : (h : Bool) → h ≡ isHeader (take (r - 0) body) → h ≡ false → refused (Input Header 1) ≡ otherHeader body
-  no-header h p q = let f = first-line in rw (← f, ← p, q)
-
--- ---- what the lines come to
+-- ---- what the steps come to
 
 module _ (key : Key) (steps : ℕ) (t : Tally) (ps : List ℕ) where
   pub judged-lines : (t .lines ≡ steps → ⊥) → refused (input Lines) ≡ judgement key steps t ps
@@ -139,17 +119,19 @@ inside-text name t =
     let n : length s ≡ length name - 4 - 4 = omega (arith, length-append s z, ap length (b .its-name)) in
     ap (take (length name - 4 - 4)) d ∙ take-at s z (length name - 4 - 4) n
 
--- a body that begins with a header and LF
-headed-lines : (k : Key) → formed k ≡ true → k .day < 36525 → (body r : List ℕ) → body ≡ headerOf k ++ 10 ∷ r → linesIn body ≡ headerOf k ∷ linesIn r
-headed-lines k f d body r e = ap linesIn e ∙ lines-first (headerOf k) r (header-in k f d)
-
-headed-first : (k : Key) → formed k ≡ true → k .day < 36525 → (body r : List ℕ) → body ≡ headerOf k ++ 10 ∷ r → headLine body ≡ headerOf k
-unfolding headLine
-headed-first k f d body r e = rw (headed-lines k f d body r e)
-
-headed-steps : (k : Key) → formed k ≡ true → k .day < 36525 → (body r : List ℕ) → body ≡ headerOf k ++ 10 ∷ r → stepLines body ≡ linesIn r
-unfolding stepLines
-headed-steps k f d body r e = rw (headed-lines k f d body r e)
+-- what is read under the key of a name: its parts are the key's
+pub inside-named : (name : List ℕ) (x : KeyRead) → x ≡ nameRead name → x .good ≡ true
+    → (isKey 95 (take (length name - 4 - 4) (drop 4 name)) ≡ true) × (x .key ≡ keyIn (take (length name - 4 - 4) (drop 4 name)))
+unfolding isKey nameKey
+inside-named name x e g =
+    let a = named name x e g in
+    let b = name-back name (a .0) in
+    let s = take (length name - 4 - 4) (drop 4 name) in
+    let n : length name - 8 ≡ length name - 4 - 4 = omega arith in
+    let q : nameKey name ≡ keyIn s = rw n in
+    let v : validKey (keyIn s) ≡ true = rw (← q) (and-true (formed (nameKey name)) (ltb (nameKey name .day) 36525) (b .its-form) (lt-ltb (nameKey name .day) 36525 (b .its-day))) in
+    let w : same s (keyText 95 (keyIn s)) ≡ true = rw (← q, inside-text name (a .0)) (same-refl (keyText 95 (nameKey name))) in
+    (and-true (validKey (keyIn s)) (same s (keyText 95 (keyIn s))) v w, a .1 ∙ q)
 
 -- the last three rows, of the lines of a day
 abbrev lineTests : ℕ → List (List ℕ) → List Test
@@ -165,10 +147,10 @@ lineResult key steps ls =
 
 module _ (key : Key) (steps : ℕ) (few : steps ≤ places) (ls : List (List ℕ)) where
   abbrev start : Taken
-  start = record { tally = noLines; powers = replicate places 0 }
+  start = record { tally = noSteps; powers = replicate places 0 }
 
   abbrev end : Taken
-  end = takeLines steps start ls
+  end = takeSteps steps start ls
 
   count-end : end .tally .lines ≡ min (length ls) 51
   count-end = lines-counted steps start ls (omega arith) ∙ ap (λ (n : ℕ). min n 51) (zero-add (length ls))
@@ -228,55 +210,28 @@ module _ (name body : List ℕ) where
     abbrev k : Key
     k = nameKey name
 
-    abbrev inside : List ℕ
-    inside = take (length name - 4 - 4) (drop 4 name)
+    abbrev first : List ℕ
+    first = headLine body
 
-    header-differs : headed inside body ≡ false → same (headLine body) (headerOf k) ≡ false
-    unfolding joined
-    header-differs h =
-        let m = name-back name a in
-        by-test (same (headLine body) (headerOf k))
-        (λ t. let e = body-back body b in
-        let q = same-true (headLine body) (headerOf k) t in
-        let e2 : body ≡ headerOf k ++ 10 ∷ joined (stepLines body) = rw q at e in
-        true-false (headed inside body) (header-told k (m .its-form) inside body (inside-text name a) (joined (stepLines body)) e2) h)
-        (λ t. t)
-
-    pub row-header : headed inside body ≡ false → otherHeader body ≡ readFile name body
-    unfolding readFile fileTests
-    row-header h =
-        let d = header-differs h in
-        by-test (isHeader (headLine body)) (λ t. rw (a, b, t, d)) (λ t. rw (a, b, t))
-
-    pub row-lines : headed inside body ≡ true → (t : Tally) (ps : List ℕ)
-        → record { tally = t; powers = ps } ≡ takeLines (stepsOf (k .day)) (record { tally = noLines; powers = replicate places 0 }) (linesIn (drop (length name - 4 - 2) body))
-        → judgement k (stepsOf (k .day)) t ps ≡ readFile name body
-    unfolding readFile fileTests noteIn
-    row-lines h t ps e =
-        let m = name-back name a in
-        let l = name-long name a in
+    -- the rest of the table, by what the header is refused by
+    after-header : (v : Verdict) → v ≡ headerVerdict k first
+        → concluded k (stepsOf (k .day)) (takeLines k (stepsOf (k .day)) (record { headed = true; header = v; steps = noLines .steps }) (stepLines body)) ≡ readFile name body
+    unfolding readFile fileTests noteIn headerVerdict
+    after-header v e =
         let s = stepsOf (k .day) in
-        let n : length inside + 2 ≡ length name - 4 - 2 = rw (length-take, length-drop) (omega arith) in
-        let r = drop (length name - 4 - 2) body in
-        let q : body ≡ headerOf k ++ 10 ∷ r = rw n at (told-header k (m .its-form) inside body (inside-text name a) h) in
-        let f = headed-first k (m .its-form) (m .its-day) body r q in
-        let g = headed-steps k (m .its-form) (m .its-day) body r q in
-        let j = judged-all k s (steps-small (k .day)) (linesIn r) in
-        let y : judgement k s t ps ≡ lineResult k s (linesIn r) = ap (λ (x : Taken). judgement k s (x .tally) (x .powers)) e ∙ j in
-        y ∙ rw (a, b, f, header-made k (m .its-form) (m .its-day) (m .its-six), same-refl (headerOf k), g)
+        let ls = stepLines body in
+        let x : FileTaken = record { headed = true; header = v; steps = noLines .steps } in
+        by-test (isHeader first)
+        (λ t. by-test (same first (headerOf k))
+        (λ u. let p : v ≡ Pass = e ∙ rw (t, u) in
+        ap (λ (w : Verdict). concluded k s (takeLines k s (record { headed = true; header = w; steps = noLines .steps }) ls)) p
+        ∙ (concluded-pass k s (noLines .steps) ls ∙ (judged-all k s (steps-small (k .day)) ls ∙ rw (a, b, t, u))))
+        (λ u. let p : v ≡ No (Input Differs 1) = e ∙ rw (t, u) in
+        concluded-no k s x (Input Differs 1) ls refl p ∙ rw (a, b, t, u)))
+        (λ t. let p : v ≡ No (Input Header 1) = e ∙ rw t in
+        concluded-no k s x (Input Header 1) ls refl p ∙ rw (a, b, t))
 
-    pub inside-long : (48 ≤ length inside) × (length inside ≤ 49)
-    inside-long = let l = name-long name a in rw (length-take, length-drop) (omega arith, omega arith)
-
-    pub lines-from : headed inside body ≡ true → length name - 4 - 2 ≤ length body
-    lines-from h =
-        let l = name-long name a in
-        let n : length inside + 2 ≡ length name - 4 - 2 = rw (length-take, length-drop) (omega arith) in
-        omega (arith, headed-long inside body h)
-
-    pub row-end : headed inside body ≡ true → (key : Key) (steps : ℕ) (t : Tally) (ps : List ℕ) → key ≡ nameKey name → steps ≡ stepsOf (key .day)
-        → record { tally = t; powers = ps } ≡ takeLines steps (record { tally = noLines; powers = replicate places 0 }) (linesIn (drop (length name - 4 - 2) body))
-        → judgement key steps t ps ≡ readFile name body
-    row-end h key steps t ps p q e =
-        let s : steps ≡ stepsOf (nameKey name .day) = q ∙ ap (λ (x : Key). stepsOf (x .day)) p in
-        ap (λ (x : Key). judgement x steps t ps) p ∙ (ap (λ (n : ℕ). judgement (nameKey name) n t ps) s ∙ row-lines h t ps (rw s at e))
+    pub row-lines : (key : Key) → key ≡ nameKey name → linesRead key (linesIn body) ≡ readFile name body
+    unfolding takeLines takeLine
+    row-lines key p =
+        ap (λ (x : Key). linesRead x (linesIn body)) p ∙ rw (body-lines body b) (after-header (headerVerdict k first) refl)

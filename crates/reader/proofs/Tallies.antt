@@ -20,31 +20,32 @@ use Rattle.refusals.specs.declared.Verdict.the-variants.{Pass, No}
 use Rattle.refusals.proofs.Tests.{refused-pass}
 use Rattle.notification.specs.Forms.{places, inPlaces, allZero}
 use Rattle.notification.specs.Reading.{hasLabels, restOf, valueOf, isPower, badLine, firstBad, lineRefusal, powersIn}
-use Rattle.reader.specs.Walking.{Taken, isPass, oneMore, counted, faulted, credited, judged, linePower, takeLine, takeLines}
+use Rattle.reader.specs.Walking.{linePower}
+use Rattle.reader.specs.Folding.{Taken, isPass, oneMore, counted, faulted, credited, judged, firstLine, takeStep, takeSteps}
 use Rattle.reader.specs.declared.tally.LinePower.{LinePower}
 use Rattle.reader.specs.declared.tally.LinePower.the-variants.{Gives, NoLabels, NoPower}
 use Rattle.notification.proofs.Places.{places-filled}
 
 -- ---- how many lines
 
-judged-lines : (x : Taken) (l : LinePower) → judged x l .tally .lines ≡ oneMore (x .tally .lines)
+judged-lines : (x : Taken) (l : LinePower) → judged firstLine x l .tally .lines ≡ oneMore (x .tally .lines)
 judged-lines x (Gives p) = refl
 judged-lines x NoLabels = refl
 judged-lines x NoPower = refl
 
-line-counted : (steps : ℕ) (x : Taken) (l : List ℕ) → takeLine steps x l .tally .lines ≡ oneMore (x .tally .lines)
-unfolding takeLine
+line-counted : (steps : ℕ) (x : Taken) (l : List ℕ) → takeStep steps x l .tally .lines ≡ oneMore (x .tally .lines)
+unfolding takeStep
 line-counted steps x l =
     by-test (not (isPass (x .tally .verdict)) || leb steps (x .tally .lines))
     (λ t. rw t)
     (λ t. rw t (judged-lines x (linePower steps (x .tally .lines) l)))
 
-pub lines-counted : (steps : ℕ) (x : Taken) (ls : List (List ℕ)) → x .tally .lines ≤ 51 → takeLines steps x ls .tally .lines ≡ min (x .tally .lines + length ls) 51
-unfolding takeLines
+pub lines-counted : (steps : ℕ) (x : Taken) (ls : List (List ℕ)) → x .tally .lines ≤ 51 → takeSteps steps x ls .tally .lines ≡ min (x .tally .lines + length ls) 51
+unfolding takeSteps
 lines-counted steps x [] h = omega arith
 lines-counted steps x (l ∷ ls) h =
     let e = line-counted steps x l in
-    let y = takeLine steps x l in
+    let y = takeStep steps x l in
     lines-counted steps y ls (omega arith) ∙ omega arith
 
 -- ---- the first fault
@@ -56,17 +57,17 @@ verdictFrom steps k (l ∷ ls) =
     cond (not (hasLabels steps k l)) (No (Input Labels (k + 2)))
     (cond (not (isPower (restOf steps k l))) (No (Input Power (k + 2))) (verdictFrom steps (suc k) ls))
 
-pub takes-cons : (steps : ℕ) (x y : Taken) (l : List ℕ) (ls : List (List ℕ)) → takeLine steps x l ≡ y → takeLines steps x (l ∷ ls) ≡ takeLines steps y ls
-unfolding takeLines
-takes-cons steps x y l ls e = ap (λ (z : Taken). takeLines steps z ls) e
+pub takes-cons : (steps : ℕ) (x y : Taken) (l : List ℕ) (ls : List (List ℕ)) → takeStep steps x l ≡ y → takeSteps steps x (l ∷ ls) ≡ takeSteps steps y ls
+unfolding takeSteps
+takes-cons steps x y l ls e = ap (λ (z : Taken). takeSteps steps z ls) e
 
-line-over : (steps : ℕ) (x : Taken) (r : Refusal) (l : List ℕ) → x .tally .verdict ≡ No r → takeLine steps x l ≡ record { tally = counted (x .tally); powers = x .powers }
-unfolding takeLine
+line-over : (steps : ℕ) (x : Taken) (r : Refusal) (l : List ℕ) → x .tally .verdict ≡ No r → takeStep steps x l ≡ record { tally = counted (x .tally); powers = x .powers }
+unfolding takeStep
 line-over steps x r l e = rw e
 
 -- after a fault the verdict stays
-pub fault-stays : (steps : ℕ) (x : Taken) (r : Refusal) (ls : List (List ℕ)) → x .tally .verdict ≡ No r → takeLines steps x ls .tally .verdict ≡ No r
-unfolding takeLines
+pub fault-stays : (steps : ℕ) (x : Taken) (r : Refusal) (ls : List (List ℕ)) → x .tally .verdict ≡ No r → takeSteps steps x ls .tally .verdict ≡ No r
+unfolding takeSteps
 fault-stays steps x r [] e = e
 fault-stays steps x r (l ∷ ls) e =
     let y : Taken = record { tally = counted (x .tally); powers = x .powers } in
@@ -83,33 +84,33 @@ or-none false = refl
 
 -- what is kept after lines that are no more than the steps left, after no fault
 pub record Kept (steps k : ℕ) (x : Taken) (ls : List (List ℕ)) : Type 0 where
-  pub its-verdict : takeLines steps x ls .tally .verdict ≡ verdictFrom steps k ls
-  pub its-any : verdictFrom steps k ls ≡ Pass → takeLines steps x ls .tally .any ≡ (x .tally .any || not (allZero (powersIn steps k ls)))
-  pub its-powers : verdictFrom steps k ls ≡ Pass → takeLines steps x ls .powers ≡ sets (x .powers) k (powersIn steps k ls)
+  pub its-verdict : takeSteps steps x ls .tally .verdict ≡ verdictFrom steps k ls
+  pub its-any : verdictFrom steps k ls ≡ Pass → takeSteps steps x ls .tally .any ≡ (x .tally .any || not (allZero (powersIn steps k ls)))
+  pub its-powers : verdictFrom steps k ls ≡ Pass → takeSteps steps x ls .powers ≡ sets (x .powers) k (powersIn steps k ls)
 
 module _ (steps : ℕ) (x : Taken) (l : List ℕ) (p : x .tally .verdict ≡ Pass) (h : x .tally .lines < steps) where
   abbrev k : ℕ
   k = x .tally .lines
 
-  line-judged : takeLine steps x l ≡ judged x (linePower steps k l)
-  unfolding takeLine
+  line-judged : takeStep steps x l ≡ judged firstLine x (linePower steps k l)
+  unfolding takeStep
   line-judged = rw (p, lt-leb steps k h)
 
-  line-no-labels : hasLabels steps k l ≡ false → takeLine steps x l ≡ record { tally = faulted (x .tally) (Input Labels (k + 2)); powers = x .powers }
+  line-no-labels : hasLabels steps k l ≡ false → takeStep steps x l ≡ record { tally = faulted (x .tally) (Input Labels (k + 2)); powers = x .powers }
   unfolding linePower
   line-no-labels a = line-judged ∙ rw a
 
-  line-no-power : hasLabels steps k l ≡ true → isPower (restOf steps k l) ≡ false → takeLine steps x l ≡ record { tally = faulted (x .tally) (Input Power (k + 2)); powers = x .powers }
+  line-no-power : hasLabels steps k l ≡ true → isPower (restOf steps k l) ≡ false → takeStep steps x l ≡ record { tally = faulted (x .tally) (Input Power (k + 2)); powers = x .powers }
   unfolding linePower
   line-no-power a b = line-judged ∙ rw (a, b)
 
   pub line-good : hasLabels steps k l ≡ true → isPower (restOf steps k l) ≡ true
-      → takeLine steps x l ≡ record { tally = credited (x .tally) (valueOf (restOf steps k l)); powers = set (x .powers) k (valueOf (restOf steps k l)) }
+      → takeStep steps x l ≡ record { tally = credited (x .tally) (valueOf (restOf steps k l)); powers = set (x .powers) k (valueOf (restOf steps k l)) }
   unfolding linePower
   line-good a b = line-judged ∙ rw (a, b)
 
 refused-kept : (steps k : ℕ) (x y : Taken) (r : Refusal) (l : List ℕ) (ls : List (List ℕ))
-    → takeLine steps x l ≡ y → y .tally .verdict ≡ No r → verdictFrom steps k (l ∷ ls) ≡ No r → Kept steps k x (l ∷ ls)
+    → takeStep steps x l ≡ y → y .tally .verdict ≡ No r → verdictFrom steps k (l ∷ ls) ≡ No r → Kept steps k x (l ∷ ls)
 refused-kept steps k x y r l ls e v w =
     record {
       its-verdict = ap (λ (z : Taken). z .tally .verdict) (takes-cons steps x y l ls e) ∙ (fault-stays steps y r ls v ∙ sym w);
@@ -118,7 +119,7 @@ refused-kept steps k x y r l ls e v w =
     }
 
 -- one good line, and the lines after it
-kept-more : (steps k : ℕ) (x y : Taken) (l : List ℕ) (ls : List (List ℕ)) → takeLine steps x l ≡ y
+kept-more : (steps k : ℕ) (x y : Taken) (l : List ℕ) (ls : List (List ℕ)) → takeStep steps x l ≡ y
     → y .tally .any ≡ (x .tally .any || not (eqb (valueOf (restOf steps k l)) 0)) → y .powers ≡ set (x .powers) k (valueOf (restOf steps k l))
     → hasLabels steps k l ≡ true → isPower (restOf steps k l) ≡ true → Kept steps (suc k) y ls → Kept steps k x (l ∷ ls)
 unfolding verdictFrom powersIn allZero
@@ -132,7 +133,7 @@ kept-more steps k x y l ls e m w a b r =
     }
 
 pub lines-kept : (steps : ℕ) (x : Taken) (ls : List (List ℕ)) → x .tally .verdict ≡ Pass → x .tally .lines + length ls ≤ steps → steps ≤ places → Kept steps (x .tally .lines) x ls
-unfolding takeLines verdictFrom powersIn allZero
+unfolding takeSteps verdictFrom powersIn allZero
 lines-kept steps x [] p h g =
     record { its-verdict = p; its-any = λ q. or-none (x .tally .any); its-powers = λ q. refl }
 lines-kept steps x (l ∷ ls) p h g =

@@ -1,3 +1,4 @@
 -- What the parts of reading a file mean.
-pub mod Walking
 pub mod Parts
+pub mod Walking
+pub mod Folding

@@ -1,16 +1,17 @@
--- The key in a text of four parts, as the reader finds it.
-use mathlib.Core.Bool.{Bool, true, false, cond, _&&_}
-use mathlib.Core.List.{List}
-use Prim.Native.Nat.{ℕ, _+_, _-_}
-use lib.Dec.{leb, eqb}
-use lib.ListN.{length, getD, take, drop, replicate}
+-- The key in a text of four parts, as the reader finds it, and the header by it.
+use mathlib.Core.Bool.{Bool, true, false, cond, not, _&&_}
+use mathlib.Core.List.{List, [], _∷_}
+use Prim.Native.Nat.{ℕ, _+_}
+use lib.Dec.{eqb}
+use lib.ListN.{getD, replicate}
 use Rattle.lists.specs.Searches.{same}
-use Rattle.notification.specs.Writing.{keyText}
-use Rattle.notification.specs.Reading.{keyIn, nameKey, validKey, isName, isHeader, headLine, refused}
+use Rattle.notification.specs.Writing.{keyText, headerOf}
+use Rattle.notification.specs.Reading.{keyIn, nameKey, validKey, isName, isHeader}
+use Rattle.refusals.specs.Tests.{firstMet}
 use Rattle.refusals.specs.declared.Refusal.the-variants.{Input}
 use Rattle.refusals.specs.declared.InputRefusal.the-variants.{Header, Differs}
+use Rattle.refusals.specs.declared.Verdict.{Verdict}
 use Rattle.notification.specs.declared.Key.{Key}
-use Rattle.notification.specs.declared.Reading.{Reading}
 use Rattle.reader.specs.declared.keys.KeyRead.{KeyRead}
 
 -- no key was found
@@ -40,16 +41,11 @@ marked name end =
 unfoldable pub nameRead : List ℕ → KeyRead
 nameRead name = cond (isName name) (found (nameKey name)) noKey
 
--- a body begins with the header that the four parts of a name give, and LF
-unfoldable pub headed : List ℕ → List ℕ → Bool
-headed s body =
-    leb (length s + 2) (length body)
-    && (eqb (getD body 16 0) 59 && eqb (getD body 33 0) 59 && eqb (getD body 42 0) 59
-    && eqb (getD body (length s) 0) 59 && eqb (getD body (length s + 1) 0) 10
-    && same (take 16 body) (take 16 s) && same (take 16 (drop 17 body)) (take 16 (drop 17 s))
-    && same (take 8 (drop 34 body)) (take 8 (drop 34 s))
-    && same (take (length s - 43) (drop 43 body)) (take (length s - 43) (drop 43 s)))
+-- what a line 1 that is not the name's header is refused by: 4 where it is a header, else 3
+abbrev pub otherHeader : List ℕ → Verdict
+otherHeader l = firstMet ((not (isHeader l), Input Header 1) ∷ (true, Input Differs 1) ∷ [])
 
--- a first line that is not the name's header: 4 where it is a header, else 3
-abbrev pub otherHeader : List ℕ → Reading
-otherHeader body = cond (isHeader (headLine body)) (refused (Input Differs 1)) (refused (Input Header 1))
+-- what line 1 is refused by: 3 where it is no header, 4 where it is not the key's
+unfoldable pub headerVerdict : Key → List ℕ → Verdict
+headerVerdict key l =
+    firstMet ((not (isHeader l), Input Header 1) ∷ (not (same l (headerOf key)), Input Differs 1) ∷ [])

@@ -63,7 +63,8 @@ pub(crate) fn run_end(steps: u32, k: u32) -> u32
 // Four bytes as a number.
 fn four(s: &[u8], a: usize) -> u64
     requires { ⌜ a + 4 ≤ length (now s) ⌝ }
-    ensures { λ r. ⌜ r ≡ getD (now (s .entry)) a 0 + 256 * (getD (now (s .entry)) (a + 1) 0 + 256 * (getD (now (s .entry)) (a + 2) 0 + 256 * getD (now (s .entry)) (a + 3) 0)) ⌝ }
+    ensures { λ r. ⌜ r ≡ getD (now (s .entry)) a 0 + 256 * (getD (now (s .entry)) (a + 1) 0
+        + 256 * (getD (now (s .entry)) (a + 2) 0 + 256 * getD (now (s .entry)) (a + 3) 0)) ⌝ }
     ensures { λ r. ⌜ r < 4294967296 ⌝ }
     ensures { λ r. ⌜ ((i : ℕ) → getD (now (s .entry)) i 0 < 256) ⌝ }
 {
@@ -73,7 +74,8 @@ fn four(s: &[u8], a: usize) -> u64
 // Whether the same twelve bytes stand at a place of each text.
 fn twelve(s: &[u8], a: usize, t: &[u8], i: usize) -> bool
     requires { ⌜ (a + 12 ≤ length (now s)) × (i + 12 ≤ length (now t)) ⌝ }
-    ensures { λ r. ⌜ (r ≡ true → (sixAt (now (s .entry)) a ≡ sixAt (now (t .entry)) i) × (sixAt (now (s .entry)) (a + 6) ≡ sixAt (now (t .entry)) (i + 6))) ⌝ }
+    ensures { λ r. ⌜ (r ≡ true → (sixAt (now (s .entry)) a ≡ sixAt (now (t .entry)) i)
+        × (sixAt (now (s .entry)) (a + 6) ≡ sixAt (now (t .entry)) (i + 6))) ⌝ }
     ensures { λ r. ⌜ ((j : ℕ) → getD (now (s .entry)) j 0 < 256) ⌝ }
 {
     let here = four(s, a) + four(s, a + 4) * 4294967296;
@@ -81,7 +83,8 @@ fn twelve(s: &[u8], a: usize, t: &[u8], i: usize) -> bool
     (here == there) & (four(s, a + 8) == four(t, i + 8))
 }
 
-// The line at a place near the end: two times as in a list of them, a power and `;`, and LF, with how many bytes these are.
+// The line at a place near the end: two times as in a list of them, a power and `;`, and LF, with how many bytes
+// these are.
 fn last_line(s: &[u8], a: usize, t: &[u8], i: usize) -> Power
     requires { ⌜ (a ≤ length (now s)) × (i + 12 ≤ length (now t)) ⌝ }
     ensures { λ r. ⌜ LineSays (now (s .entry)) a (sixAt (now (t .entry)) i) (sixAt (now (t .entry)) (i + 6)) r ⌝ }

@@ -71,7 +71,8 @@ pub(crate) fn power_of(a: u8, b: u8, c: u8, d: u8, e: u8) -> Power
 // The power and `;` at a place.
 pub(crate) fn power_at(s: &[u8], a: usize) -> Power
     requires { ⌜ a ≤ length (now s) ⌝ }
-    ensures { λ r. ⌜ r ≡ powerOf (getD (now (s .entry)) a 0) (getD (now (s .entry)) (a + 1) 0) (getD (now (s .entry)) (a + 2) 0) (getD (now (s .entry)) (a + 3) 0) (getD (now (s .entry)) (a + 4) 0) ⌝ }
+    ensures { λ r. ⌜ r ≡ powerOf (getD (now (s .entry)) a 0) (getD (now (s .entry)) (a + 1) 0)
+        (getD (now (s .entry)) (a + 2) 0) (getD (now (s .entry)) (a + 3) 0) (getD (now (s .entry)) (a + 4) 0) ⌝ }
 {
     if 5 <= s.len() - a {
         return power_of(s[a], s[a + 1], s[a + 2], s[a + 3], s[a + 4]);

@@ -10,18 +10,18 @@ use lib.Dec.{eqb}
 use lib.ListN.{length, getD, set}
 use lib.Seq.{getD-set-same, getD-set-other, set-getD}
 use borrow.Author.Tests.{eq-eqb, ne-eqb}
-use Rattle.calendar.specs.Clocks.{firstCounted}
+use Rattle.calendar.specs.Clocks.{firstCounted, replacesWhole}
 use Rattle.calendar.specs.declared.clock.Clock.{Clock}
 use Rattle.ledger.specs.Statuses.{created, answered, deleted, validated, updated, obsolete}
 use Rattle.ledger.specs.Ledger.{Key, Rec, underKey}
-use Rattle.ledger.specs.Filing.{withStatus, ruleOne, ruleTwo, ruleThree, deletes, answers, replaces, obsoletes, samePowers, changed}
+use Rattle.ledger.specs.Filing.{withStatus, ruleOne, ruleTwo, ruleThree, deletes, answers, replaces, samePowers, changed}
 use Rattle.ledger.proofs.Moving.{part-changed}
-use Rattle.tables.specs.Tables.{Columns, keyIn}
-use Rattle.tables.specs.Passing.{isUnder, reached, Listed}
+use Rattle.tables.specs.Tables.{Columns, keyFrom, recOf, recordIn}
+use Rattle.tables.specs.More.{putTo, withUntil}
+use Rattle.tables.specs.Passing.{isUnder, reached, PlacesOf}
 use Rattle.tables.proofs.Listing.{listed-next, reached-more}
 use Rattle.lists.proofs.Tests.{and-true, and-right}
-use Rattle.recording.specs.Recording.{recOf, recAt, pairsBelow, madeOf, ChangedAt, Changed}
-use Rattle.tables.specs.More.{putTo, withUntil}
+use Rattle.recording.specs.Recording.{pairsBelow, madeOf, withChanges, ChangedAt, Changed}
 use Rattle.tables.proofs.Keys.{key-same}
 use Rattle.recording.proofs.Puts.{put-length, put-past, put-more, put-same}
 
@@ -44,36 +44,38 @@ module _ (by own status key : ℕ) (ps mark row : List ℕ) where
   abbrev rec : Rec
   rec = recOf 0 status key mark row
 
-  pub not-key : eqb key own ≡ false → false ≡ answers by (keyIn own) ps rec
+  pub not-key : eqb key own ≡ false → false ≡ answers by (keyFrom own) ps rec
   not-key e =
-      sym (second-false (eqb status created) (underKey (keyIn own) rec) (not (eqb (getD mark 0 0) by)) (samePowers row ps)
+      sym (second-false (eqb status created) (underKey (keyFrom own) rec) (not (eqb (getD mark 0 0) by)) (samePowers row ps)
       (key-same key own ∙ e))
 
-  pub not-created : eqb status created ≡ false → false ≡ answers by (keyIn own) ps rec
+  pub not-created : eqb status created ≡ false → false ≡ answers by (keyFrom own) ps rec
   not-created e = rw e
 
-  pub not-other : getD mark 0 0 ≡ by → false ≡ answers by (keyIn own) ps rec
+  pub not-other : getD mark 0 0 ≡ by → false ≡ answers by (keyFrom own) ps rec
   not-other e =
-      sym (third-false (eqb status created) (underKey (keyIn own) rec) (not (eqb (getD mark 0 0) by)) (samePowers row ps)
+      sym (third-false (eqb status created) (underKey (keyFrom own) rec) (not (eqb (getD mark 0 0) by)) (samePowers row ps)
       (ap not (eq-eqb (getD mark 0 0) by e)))
 
   pub by-powers : eqb key own ≡ true → eqb status created ≡ true → (getD mark 0 0 ≡ by → ⊥) →
-      samePowers row ps ≡ answers by (keyIn own) ps rec
+      samePowers row ps ≡ answers by (keyFrom own) ps rec
   by-powers e f g = rw (f, key-same key own ∙ e, ne-eqb (getD mark 0 0) by g)
 
 -- one record more
-pub pairs-next : (cols : Columns) (statuses : List ℕ) (i by own : ℕ) (ps : List ℕ) (a b : Bool) →
-    a ≡ answers by (keyIn own) ps (recAt cols statuses 0 i) → b ≡ pairsBelow cols statuses i by own ps →
-    (a || b) ≡ pairsBelow cols statuses (i + 1) by own ps
+pub pairs-next : (cols : Columns) (i by own : ℕ) (ps : List ℕ) (a b : Bool) →
+    a ≡ answers by (keyFrom own) ps (recordIn cols i) → b ≡ pairsBelow cols i by own ps →
+    (a || b) ≡ pairsBelow cols (i + 1) by own ps
 unfolding pairsBelow
-pairs-next cols statuses i by own ps a b e f = rw (add-one i, e, f)
+pairs-next cols i by own ps a b e f = rw (add-one i, e, f)
 
 -- one record more, of another key
-pub pairs-same : (cols : Columns) (statuses : List ℕ) (i by own : ℕ) (ps : List ℕ) (b : Bool) → isUnder (cols .keys) own i ≡ false →
-    b ≡ pairsBelow cols statuses i by own ps → b ≡ pairsBelow cols statuses (i + 1) by own ps
-pairs-same cols statuses i by own ps b e f =
-    pairs-next cols statuses i by own ps false b
-    (not-key by own (getD statuses i 0) (getD (cols .keys) i 0) ps (getD (cols .marks) i []) (getD (cols .rows) i []) e) f
+pub pairs-same : (cols : Columns) (i by own : ℕ) (ps : List ℕ) (b : Bool) → isUnder (cols .keys) own i ≡ false →
+    b ≡ pairsBelow cols i by own ps → b ≡ pairsBelow cols (i + 1) by own ps
+pairs-same cols i by own ps b e f =
+    pairs-next cols i by own ps false b
+    (not-key by own (getD (cols .statuses) i 0) (getD (cols .keys) i 0) ps (getD (cols .marks) i []) (getD (cols .rows) i [])
+    e)
+    f
 
 -- ---- the rules one by one
 
@@ -94,13 +96,13 @@ module _ (by : ℕ) (k : Key) (ps : List ℕ) (r : Rec) where
 module _ (clock : Clock) (k : Key) (r : Rec) where
   three-not : replaces k r ≡ false → ruleThree clock k r ≡ r
   three-not t =
-      ap (λ b. cond b (cond (obsoletes clock k r) (withStatus obsolete (r .until) r)
+      ap (λ b. cond b (cond (replacesWhole clock (r .from) (k .day)) (withStatus obsolete (r .until) r)
       (withStatus updated (firstCounted clock (k .day)) r)) r) t
 
-  three-obsolete : replaces k r ≡ true → obsoletes clock k r ≡ true → ruleThree clock k r ≡ withStatus obsolete (r .until) r
+  three-obsolete : replaces k r ≡ true → replacesWhole clock (r .from) (k .day) ≡ true → ruleThree clock k r ≡ withStatus obsolete (r .until) r
   three-obsolete t u = rw (t, u)
 
-  three-updated : replaces k r ≡ true → obsoletes clock k r ≡ false →
+  three-updated : replaces k r ≡ true → replacesWhole clock (r .from) (k .day) ≡ false →
       ruleThree clock k r ≡ withStatus updated (firstCounted clock (k .day)) r
   three-updated t u = rw (t, u)
 
@@ -174,10 +176,10 @@ module _ (clock : Clock) (by : ℕ) (k : Key) (ps : List ℕ) (r : Rec) where
       replaced : replaces k r ≡ true
       replaced = and-true (eqb (r .status) validated) (underKey k r) (and-right paired (eqb (r .status) validated) p) u
 
-      pub made-obsolete : obsoletes clock k r ≡ true → changed paired clock by k ps r ≡ withStatus obsolete (r .until) r
+      pub made-obsolete : replacesWhole clock (r .from) (k .day) ≡ true → changed paired clock by k ps r ≡ withStatus obsolete (r .until) r
       made-obsolete o = before-three ∙ three-obsolete clock k r replaced o
 
-      pub made-updated : obsoletes clock k r ≡ false → changed paired clock by k ps r ≡ withStatus updated (firstCounted clock (k .day)) r
+      pub made-updated : replacesWhole clock (r .from) (k .day) ≡ false → changed paired clock by k ps r ≡ withStatus updated (firstCounted clock (k .day)) r
       made-updated o = before-three ∙ three-updated clock k r replaced o
 
     pub rest-kept : (paired : Bool) → (paired && eqb (r .status) validated) ≡ false → (r .status ≡ created → ⊥) →
@@ -204,142 +206,140 @@ changed-is paired clock by k ps r =
 -- ---- the records one by one
 
 module _ (paired : Bool) (clock : Clock) (by own : ℕ) (ps : List ℕ) where
+  -- record i as one of the filing's key
+  abbrev ownAt : Columns → ℕ → Rec
+  ownAt cols i =
+      recOf (getD (cols .ids) i 0) (getD (cols .statuses) i 0) own (getD (cols .marks) i []) (getD (cols .rows) i [])
+
   -- the changed record stored
-  pub stored : (i status until : ℕ) (keys statuses mark : List ℕ) (marks rows : List (List ℕ)) → getD keys i 0 ≡ own →
-      ((id : ℕ) → (status ≡ changed paired clock by (keyIn own) ps
-      (recOf id (getD statuses i 0) own (getD marks i []) (getD rows i [])) .status)
-      × (until ≡ changed paired clock by (keyIn own) ps (recOf id (getD statuses i 0) own (getD marks i []) (getD rows i [])) .until)) →
-      (mark ≡ withUntil (getD marks i []) until) × (getD mark 2 0 ≡ until) →
-      ChangedAt paired clock by own ps i (record { keys = keys; marks = marks; rows = rows })
-      (record { keys = keys; marks = set marks i mark; rows = rows }) statuses (set statuses i status)
-  stored i status until keys statuses mark marks rows e f g =
+  pub stored : (cols : Columns) (i status until : ℕ) (mark : List ℕ) → getD (cols .keys) i 0 ≡ own →
+      (status ≡ changed paired clock by (keyFrom own) ps (ownAt cols i) .status)
+      × (until ≡ changed paired clock by (keyFrom own) ps (ownAt cols i) .until) →
+      (mark ≡ withUntil (getD (cols .marks) i []) until) × (getD mark 2 0 ≡ until) →
+      ChangedAt paired clock by own ps i cols (set (cols .statuses) i status) (set (cols .marks) i mark)
+  stored cols i status until mark e f g =
       record {
-        new-statuses = λ id. rw e (ap (set statuses i) (f id .0));
-        new-marks = λ id. rw e (ap (set marks i) (g .0 ∙ ap (withUntil (getD marks i [])) (f id .1)));
-        here = λ h l id. rw (getD-set-same statuses i status 0 h, getD-set-same marks i mark [] l, e) (built id);
+        new-statuses = rw e (ap (set (cols .statuses) i) (f .0));
+        new-marks = rw e (ap (set (cols .marks) i) (g .0 ∙ ap (withUntil (getD (cols .marks) i [])) (f .1)));
+        here = λ h l.
+            rw (getD-set-same (cols .statuses) i status 0 h, getD-set-same (cols .marks) i mark [] l, e) built;
       }
     where
-      old : ℕ → Rec
-      old id = recOf id (getD statuses i 0) own (getD marks i []) (getD rows i [])
+      first : (j : ℕ) → (j ≡ 2 → ⊥) → getD mark j 0 ≡ getD (getD (cols .marks) i []) j 0
+      first j ne = ap (λ m. getD m j 0) (g .0) ∙ getD-set-other (getD (cols .marks) i []) 2 j until 0 ne
 
-      first : (j : ℕ) → (j ≡ 2 → ⊥) → getD mark j 0 ≡ getD (getD marks i []) j 0
-      first j ne = ap (λ m. getD m j 0) (g .0) ∙ getD-set-other (getD marks i []) 2 j until 0 ne
-
-      built : (id : ℕ) → recOf id status own mark (getD rows i []) ≡ changed paired clock by (keyIn own) ps (old id)
-      built id =
+      built : recOf (getD (cols .ids) i 0) status own mark (getD (cols .rows) i [])
+          ≡ changed paired clock by (keyFrom own) ps (ownAt cols i)
+      built =
           rw (first 0 (λ e. omega arith), first 1 (λ e. omega arith), g .1)
-          (ap₂ (λ s u. withStatus s u (old id)) (f id .0) (f id .1) ∙ changed-is paired clock by (keyIn own) ps (old id))
+          (ap₂ (λ s u. withStatus s u (ownAt cols i)) (f .0) (f .1)
+          ∙ changed-is paired clock by (keyFrom own) ps (ownAt cols i))
 
-  -- a record of another key is left as it is
-  pub not-changed : (i id : ℕ) (cols : Columns) (statuses : List ℕ) → isUnder (cols .keys) own i ≡ false →
-      recAt cols statuses id i ≡ madeOf paired clock by own ps cols statuses id i
-  not-changed i id cols statuses ne =
-      sym (other-key clock by (keyIn own) ps (recAt cols statuses id i) paired (key-same (getD (cols .keys) i 0) own ∙ ne))
+  module _ (cols : Columns) (i : ℕ) where
+    -- a record of another key is left as it is
+    not-changed : isUnder (cols .keys) own i ≡ false → recordIn cols i ≡ madeOf paired clock by own ps cols i
+    not-changed ne =
+        sym (other-key clock by (keyFrom own) ps (recordIn cols i) paired (key-same (getD (cols .keys) i 0) own ∙ ne))
 
-  -- and so are its status and its mark
-  same-status : (i id : ℕ) (cols : Columns) (statuses : List ℕ) → isUnder (cols .keys) own i ≡ false →
-      madeOf paired clock by own ps cols statuses id i .status ≡ getD statuses i 0
-  same-status i id cols statuses ne = sym (ap (λ r. r .status) (not-changed i id cols statuses ne))
+    -- and so are its status and its mark
+    same-status : isUnder (cols .keys) own i ≡ false →
+        madeOf paired clock by own ps cols i .status ≡ getD (cols .statuses) i 0
+    same-status ne = sym (ap (λ r. r .status) (not-changed ne))
 
-  same-mark : (i id : ℕ) (cols : Columns) (statuses : List ℕ) → isUnder (cols .keys) own i ≡ false →
-      withUntil (getD (cols .marks) i []) (madeOf paired clock by own ps cols statuses id i .until) ≡ getD (cols .marks) i []
-  same-mark i id cols statuses ne =
-      ap (withUntil (getD (cols .marks) i [])) (sym (ap (λ r. r .until) (not-changed i id cols statuses ne)))
-      ∙ set-getD (getD (cols .marks) i []) 2 0
+    same-mark : isUnder (cols .keys) own i ≡ false →
+        withUntil (getD (cols .marks) i []) (madeOf paired clock by own ps cols i .until) ≡ getD (cols .marks) i []
+    same-mark ne =
+        ap (withUntil (getD (cols .marks) i [])) (sym (ap (λ r. r .until) (not-changed ne)))
+        ∙ set-getD (getD (cols .marks) i []) 2 0
 
-  pub left-alone : (i : ℕ) (cols : Columns) (statuses : List ℕ) → (getD (cols .keys) i 0 ≡ own → ⊥) →
-      ChangedAt paired clock by own ps i cols cols statuses statuses
-  left-alone i cols statuses ne =
-      let u = ne-eqb (getD (cols .keys) i 0) own ne in
-      record {
-        new-statuses = λ id. sym (ap (set statuses i) (same-status i id cols statuses u) ∙ set-getD statuses i 0);
-        new-marks = λ id. sym (ap (set (cols .marks) i) (same-mark i id cols statuses u) ∙ set-getD (cols .marks) i []);
-        here = λ h l id. not-changed i id cols statuses u;
-      }
+    pub left-alone : (getD (cols .keys) i 0 ≡ own → ⊥) →
+        ChangedAt paired clock by own ps i cols (cols .statuses) (cols .marks)
+    left-alone ne =
+        let u = ne-eqb (getD (cols .keys) i 0) own ne in
+        record {
+          new-statuses = sym (ap (set (cols .statuses) i) (same-status u) ∙ set-getD (cols .statuses) i 0);
+          new-marks = sym (ap (set (cols .marks) i) (same-mark u) ∙ set-getD (cols .marks) i []);
+          here = λ h l. not-changed u;
+        }
 
-  pub changed-none : (cols : Columns) (statuses : List ℕ) → Changed paired clock by own ps 0 cols cols statuses statuses
+  pub changed-none : (cols : Columns) → Changed paired clock by own ps 0 cols (cols .statuses) (cols .marks)
   unfolding putTo
-  changed-none cols statuses =
-      record { new-statuses = λ ids. refl; new-marks = λ ids. refl; below = λ id i h. absurd (omega arith) }
+  changed-none cols = record { new-statuses = refl; new-marks = refl; below = λ i h. absurd (omega arith) }
 
   -- record i and those past it, where those below i are changed
-  module _ (i : ℕ) (keys statuses next : List ℕ) (rows marks after : List (List ℕ))
-      (p : Changed paired clock by own ps i (record { keys = keys; marks = marks; rows = rows }) (record { keys = keys; marks = after; rows = rows }) statuses next) where
-    abbrev was : Columns
-    was = record { keys = keys; marks = marks; rows = rows }
-
+  module _ (cols : Columns) (i : ℕ) (next : List ℕ) (after : List (List ℕ))
+      (p : Changed paired clock by own ps i cols next after) where
     abbrev is : Columns
-    is = record { keys = keys; marks = after; rows = rows }
+    is = withChanges cols next after
 
-    still-status : getD next i 0 ≡ getD statuses i 0
-    still-status = ap (λ l. getD l i 0) (p .new-statuses (λ j. 0)) ∙ put-past _ statuses i i 0 (omega arith)
+    still-status : getD next i 0 ≡ getD (cols .statuses) i 0
+    still-status = ap (λ l. getD l i 0) (p .new-statuses) ∙ put-past _ (cols .statuses) i i 0 (omega arith)
 
-    still-mark : getD after i [] ≡ getD marks i []
-    still-mark = ap (λ l. getD l i []) (p .new-marks (λ j. 0)) ∙ put-past _ marks i i [] (omega arith)
+    still-mark : getD after i [] ≡ getD (cols .marks) i []
+    still-mark = ap (λ l. getD l i []) (p .new-marks) ∙ put-past _ (cols .marks) i i [] (omega arith)
 
-    still : (id : ℕ) → recAt is next id i ≡ recAt was statuses id i
-    still id = ap₂ (λ m s. recOf id s (getD keys i 0) m (getD rows i [])) still-mark still-status
+    still : recordIn is i ≡ recordIn cols i
+    still =
+        ap₂ (λ m s. recOf (getD (cols .ids) i 0) s (getD (cols .keys) i 0) m (getD (cols .rows) i []))
+        still-mark still-status
 
     -- one record more, of another key
-    pub changed-same : isUnder keys own i ≡ false → Changed paired clock by own ps (i + 1) was is statuses next
+    pub changed-same : isUnder (cols .keys) own i ≡ false → Changed paired clock by own ps (i + 1) cols next after
     changed-same ne =
         record {
-          new-statuses = λ ids. put-same _ statuses i next 0 (p .new-statuses ids) (same-status i (ids i) was statuses ne);
-          new-marks = λ ids. put-same _ marks i after [] (p .new-marks ids) (same-mark i (ids i) was statuses ne);
-          below = λ id j k. go id j k (ℕ-discrete j i);
+          new-statuses = put-same _ (cols .statuses) i next 0 (p .new-statuses) (same-status cols i ne);
+          new-marks = put-same _ (cols .marks) i after [] (p .new-marks) (same-mark cols i ne);
+          below = λ j k. go j k (ℕ-discrete j i);
         }
       where
-        go : (id j : ℕ) → j < i + 1 → Dec (j ≡ i) → recAt is next id j ≡ madeOf paired clock by own ps was statuses id j
-        go id j k (yes e) = rw e (still id ∙ not-changed i id was statuses ne)
-        go id j k (no e) = p .below id j (omega arith)
+        go : (j : ℕ) → j < i + 1 → Dec (j ≡ i) → recordIn is j ≡ madeOf paired clock by own ps cols j
+        go j k (yes e) = rw e (still ∙ not-changed cols i ne)
+        go j k (no e) = p .below j (omega arith)
 
     -- one record more, changed
-    pub changed-more : (later : List ℕ) (then : List (List ℕ)) → i < length statuses → i < length marks →
-        ChangedAt paired clock by own ps i is (record { keys = keys; marks = then; rows = rows }) next later →
-        Changed paired clock by own ps (i + 1) was (record { keys = keys; marks = then; rows = rows }) statuses later
+    pub changed-more : (later : List ℕ) (then : List (List ℕ)) →
+        i < length (cols .statuses) → i < length (cols .marks) →
+        ChangedAt paired clock by own ps i is later then → Changed paired clock by own ps (i + 1) cols later then
     changed-more later then h l c =
         record {
-          new-statuses = λ ids.
-              put-more _ statuses i next later (p .new-statuses ids)
-              (c .new-statuses (ids i) ∙ ap (λ r. set next i (changed paired clock by (keyIn own) ps r .status)) (still (ids i)));
-          new-marks = λ ids.
-              put-more _ marks i after then (p .new-marks ids)
-              (c .new-marks (ids i)
-              ∙ ap₂ (λ m r. set after i (withUntil m (changed paired clock by (keyIn own) ps r .until))) still-mark (still (ids i)));
-          below = λ id j k. go id j k (ℕ-discrete j i);
+          new-statuses =
+              put-more _ (cols .statuses) i next later (p .new-statuses)
+              (c .new-statuses ∙ ap (λ r. set next i (changed paired clock by (keyFrom own) ps r .status)) still);
+          new-marks =
+              put-more _ (cols .marks) i after then (p .new-marks)
+              (c .new-marks
+              ∙ ap₂ (λ m r. set after i (withUntil m (changed paired clock by (keyFrom own) ps r .until))) still-mark still);
+          below = λ j k. go j k (ℕ-discrete j i);
         }
       where
         longer : i < length next
-        longer = rw (p .new-statuses (λ j. 0), put-length _ statuses i) h
+        longer = rw (p .new-statuses, put-length _ (cols .statuses) i) h
 
         longer-marks : i < length after
-        longer-marks = rw (p .new-marks (λ j. 0), put-length _ marks i) l
+        longer-marks = rw (p .new-marks, put-length _ (cols .marks) i) l
 
-        other : (id j : ℕ) → (j ≡ i → ⊥) →
-            recAt (record { keys = keys; marks = then; rows = rows }) later id j ≡ recAt is next id j
-        other id j ne =
-            ap₂ (λ m s. recOf id s (getD keys j 0) m (getD rows j []))
-            (ap (λ l. getD l j []) (c .new-marks 0) ∙ getD-set-other after i j _ [] ne)
-            (ap (λ l. getD l j 0) (c .new-statuses 0) ∙ getD-set-other next i j _ 0 ne)
+        other : (j : ℕ) → (j ≡ i → ⊥) → recordIn (withChanges cols later then) j ≡ recordIn is j
+        other j ne =
+            ap₂ (λ m s. recOf (getD (cols .ids) j 0) s (getD (cols .keys) j 0) m (getD (cols .rows) j []))
+            (ap (λ l. getD l j []) (c .new-marks) ∙ getD-set-other after i j _ [] ne)
+            (ap (λ l. getD l j 0) (c .new-statuses) ∙ getD-set-other next i j _ 0 ne)
 
-        go : (id j : ℕ) → j < i + 1 → Dec (j ≡ i) →
-            recAt (record { keys = keys; marks = then; rows = rows }) later id j ≡ madeOf paired clock by own ps was statuses id j
-        go id j k (yes e) = rw e (c .here longer longer-marks id ∙ ap (changed paired clock by (keyIn own) ps) (still id))
-        go id j k (no e) = other id j e ∙ p .below id j (omega arith)
+        go : (j : ℕ) → j < i + 1 → Dec (j ≡ i) →
+            recordIn (withChanges cols later then) j ≡ madeOf paired clock by own ps cols j
+        go j k (yes e) = rw e (c .here longer longer-marks ∙ ap (changed paired clock by (keyFrom own) ps) still)
+        go j k (no e) = other j e ∙ p .below j (omega arith)
 
   -- the listed record after those passed
-  pub changed-listed : (n count j i : ℕ) (places keys statuses next later : List ℕ) (rows marks after then : List (List ℕ)) →
-      Listed (isUnder keys own) n count places → j < count → i ≡ getD places j 0 → i < length statuses → i < length marks →
-      Changed paired clock by own ps (reached places j) (record { keys = keys; marks = marks; rows = rows }) (record { keys = keys; marks = after; rows = rows }) statuses next →
-      ChangedAt paired clock by own ps i (record { keys = keys; marks = after; rows = rows }) (record { keys = keys; marks = then; rows = rows }) next later →
-      Changed paired clock by own ps (reached places (j + 1)) (record { keys = keys; marks = marks; rows = rows }) (record { keys = keys; marks = then; rows = rows }) statuses later
-  changed-listed n count j i places keys statuses next later rows marks after then l h e a b p c =
-      let before = listed-next (isUnder keys own) n count places l
-      (λ k. Changed paired clock by own ps k (record { keys = keys; marks = marks; rows = rows }) (record { keys = keys; marks = after; rows = rows }) statuses next)
-      (λ k t q. changed-same k keys statuses next rows marks after q t)
-      j h p in
+  pub changed-listed : (cols : Columns) (n count j i : ℕ) (places next later : List ℕ) (after then : List (List ℕ)) →
+      PlacesOf (isUnder (cols .keys) own) n count places → j < count → i ≡ getD places j 0 →
+      i < length (cols .statuses) → i < length (cols .marks) →
+      Changed paired clock by own ps (reached places j) cols next after →
+      ChangedAt paired clock by own ps i (withChanges cols next after) later then →
+      Changed paired clock by own ps (reached places (j + 1)) cols later then
+  changed-listed cols n count j i places next later after then l h e a b p c =
+      let before = listed-next (isUnder (cols .keys) own) n count places l
+      (λ k. Changed paired clock by own ps k cols next after) (λ k t q. changed-same cols k next after q t) j h p in
       let to : i + 1 ≡ reached places (j + 1) = ap (λ k. k + 1) e ∙ sym (reached-more places j) in
-      subst (λ m. Changed paired clock by own ps m (record { keys = keys; marks = marks; rows = rows }) (record { keys = keys; marks = then; rows = rows }) statuses later) to
-      (changed-more i keys statuses next rows marks after
-      (subst (λ m. Changed paired clock by own ps m (record { keys = keys; marks = marks; rows = rows }) (record { keys = keys; marks = after; rows = rows }) statuses next) (sym e) before)
+      subst (λ m. Changed paired clock by own ps m cols later then) to
+      (changed-more cols i next after (subst (λ m. Changed paired clock by own ps m cols next after) (sym e) before)
       later then a b c)

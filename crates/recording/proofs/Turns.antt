@@ -13,10 +13,10 @@ use borrow.Author.Tests.{lt-leb, le-leb}
 use Rattle.lists.specs.Tests.{allBelow}
 use Rattle.lists.specs.Sums.{sumTo}
 use Rattle.ledger.specs.Ledger.{movedBy}
-use Rattle.tables.specs.Tables.{Columns}
+use Rattle.tables.specs.Tables.{Columns, recordIn}
 use Rattle.tables.specs.Passing.{inMarket}
 use Rattle.tables.proofs.Listing.{through}
-use Rattle.recording.specs.Recording.{recAt, gainedAt, givenAt, partyIn, idsBelow, putInto}
+use Rattle.recording.specs.Recording.{gainedAt, givenAt, partyIn, idsBelow, putInto}
 
 -- ---- tests and sums
 
@@ -27,61 +27,61 @@ sum-next : (f : ℕ → ℕ) (i g w : ℕ) → g ≡ sumTo i f → w ≡ f i →
 sum-next f i g w e k = rw (add-one i, e, k)
 
 -- one record more in what an actor acquires, and in what it cedes
-module _ (cols : Columns) (statuses : List ℕ) (market a s i sum term p : ℕ) (e : p ≡ movedBy s (recAt cols statuses 0 i)) where
-  pub gained-next : sum ≡ sumTo i (gainedAt cols statuses market a s) →
+module _ (cols : Columns) (market a s i sum term p : ℕ) (e : p ≡ movedBy s (recordIn cols i)) where
+  pub gained-next : sum ≡ sumTo i (gainedAt cols market a s) →
       term ≡ cond (eqb (getD (cols .keys) i 0 / 64) market && eqb (getD (cols .keys) i 0 % 8) a) p 0 →
-      sum + term ≡ sumTo (i + 1) (gainedAt cols statuses market a s)
+      sum + term ≡ sumTo (i + 1) (gainedAt cols market a s)
   gained-next f g =
-      sum-next (gainedAt cols statuses market a s) i sum term f
+      sum-next (gainedAt cols market a s) i sum term f
       (g ∙ ap (λ m. cond (eqb (getD (cols .keys) i 0 / 64) market && eqb (getD (cols .keys) i 0 % 8) a) m 0) e)
 
-  pub given-next : sum ≡ sumTo i (givenAt cols statuses market a s) →
+  pub given-next : sum ≡ sumTo i (givenAt cols market a s) →
       term ≡ cond (eqb (getD (cols .keys) i 0 / 64) market && eqb (getD (cols .keys) i 0 / 8 % 8) a) p 0 →
-      sum + term ≡ sumTo (i + 1) (givenAt cols statuses market a s)
+      sum + term ≡ sumTo (i + 1) (givenAt cols market a s)
   given-next f g =
-      sum-next (givenAt cols statuses market a s) i sum term f
+      sum-next (givenAt cols market a s) i sum term f
       (g ∙ ap (λ m. cond (eqb (getD (cols .keys) i 0 / 64) market && eqb (getD (cols .keys) i 0 / 8 % 8) a) m 0) e)
 
 -- ---- from one record of the category and day to the next
 
-module _ (cols : Columns) (statuses : List ℕ) (market a s : ℕ) where
-  gained-elsewhere : (i sum : ℕ) → inMarket (cols .keys) market i ≡ false → sum ≡ sumTo i (gainedAt cols statuses market a s) →
-      sum ≡ sumTo (i + 1) (gainedAt cols statuses market a s)
+module _ (cols : Columns) (market a s : ℕ) where
+  gained-elsewhere : (i sum : ℕ) → inMarket (cols .keys) market i ≡ false → sum ≡ sumTo i (gainedAt cols market a s) →
+      sum ≡ sumTo (i + 1) (gainedAt cols market a s)
   gained-elsewhere i sum e f =
-      let z : gainedAt cols statuses market a s i ≡ 0 = rw e in
-      let g = gained-next cols statuses market a s i sum 0 (movedBy s (recAt cols statuses 0 i)) refl f (sym z) in
+      let z : gainedAt cols market a s i ≡ 0 = rw e in
+      let g = gained-next cols market a s i sum 0 (movedBy s (recordIn cols i)) refl f (sym z) in
       omega (arith, g)
 
-  given-elsewhere : (i sum : ℕ) → inMarket (cols .keys) market i ≡ false → sum ≡ sumTo i (givenAt cols statuses market a s) →
-      sum ≡ sumTo (i + 1) (givenAt cols statuses market a s)
+  given-elsewhere : (i sum : ℕ) → inMarket (cols .keys) market i ≡ false → sum ≡ sumTo i (givenAt cols market a s) →
+      sum ≡ sumTo (i + 1) (givenAt cols market a s)
   given-elsewhere i sum e f =
-      let z : givenAt cols statuses market a s i ≡ 0 = rw e in
-      let g = given-next cols statuses market a s i sum 0 (movedBy s (recAt cols statuses 0 i)) refl f (sym z) in
+      let z : givenAt cols market a s i ≡ 0 = rw e in
+      let g = given-next cols market a s i sum 0 (movedBy s (recordIn cols i)) refl f (sym z) in
       omega (arith, g)
 
   module _ (i k sum : ℕ) (h : i ≤ k) (none : (j : ℕ) → i ≤ j → j < k → inMarket (cols .keys) market j ≡ false) where
-    pub gained-through : sum ≡ sumTo i (gainedAt cols statuses market a s) → sum ≡ sumTo k (gainedAt cols statuses market a s)
+    pub gained-through : sum ≡ sumTo i (gainedAt cols market a s) → sum ≡ sumTo k (gainedAt cols market a s)
     gained-through f =
-        through (λ j. sum ≡ sumTo j (gainedAt cols statuses market a s)) i k h (λ j l u. gained-elsewhere j sum (none j l u)) f
+        through (λ j. sum ≡ sumTo j (gainedAt cols market a s)) i k h (λ j l u. gained-elsewhere j sum (none j l u)) f
 
-    pub given-through : sum ≡ sumTo i (givenAt cols statuses market a s) → sum ≡ sumTo k (givenAt cols statuses market a s)
+    pub given-through : sum ≡ sumTo i (givenAt cols market a s) → sum ≡ sumTo k (givenAt cols market a s)
     given-through f =
-        through (λ j. sum ≡ sumTo j (givenAt cols statuses market a s)) i k h (λ j l u. given-elsewhere j sum (none j l u)) f
+        through (λ j. sum ≡ sumTo j (givenAt cols market a s)) i k h (λ j l u. given-elsewhere j sum (none j l u)) f
 
   module _ (i sum term : ℕ) (here : inMarket (cols .keys) market i ≡ true) where
-    pub gained-here : sum ≡ sumTo i (gainedAt cols statuses market a s) →
-        term ≡ cond (eqb (getD (cols .keys) i 0 % 8) a) (movedBy s (recAt cols statuses 0 i)) 0 →
-        sum + term ≡ sumTo (i + 1) (gainedAt cols statuses market a s)
+    pub gained-here : sum ≡ sumTo i (gainedAt cols market a s) →
+        term ≡ cond (eqb (getD (cols .keys) i 0 % 8) a) (movedBy s (recordIn cols i)) 0 →
+        sum + term ≡ sumTo (i + 1) (gainedAt cols market a s)
     gained-here f g =
-        gained-next cols statuses market a s i sum term (movedBy s (recAt cols statuses 0 i)) refl f
-        (g ∙ sym (ap (λ b. cond (b && eqb (getD (cols .keys) i 0 % 8) a) (movedBy s (recAt cols statuses 0 i)) 0) here))
+        gained-next cols market a s i sum term (movedBy s (recordIn cols i)) refl f
+        (g ∙ sym (ap (λ b. cond (b && eqb (getD (cols .keys) i 0 % 8) a) (movedBy s (recordIn cols i)) 0) here))
 
-    pub given-here : sum ≡ sumTo i (givenAt cols statuses market a s) →
-        term ≡ cond (eqb (getD (cols .keys) i 0 / 8 % 8) a) (movedBy s (recAt cols statuses 0 i)) 0 →
-        sum + term ≡ sumTo (i + 1) (givenAt cols statuses market a s)
+    pub given-here : sum ≡ sumTo i (givenAt cols market a s) →
+        term ≡ cond (eqb (getD (cols .keys) i 0 / 8 % 8) a) (movedBy s (recordIn cols i)) 0 →
+        sum + term ≡ sumTo (i + 1) (givenAt cols market a s)
     given-here f g =
-        given-next cols statuses market a s i sum term (movedBy s (recAt cols statuses 0 i)) refl f
-        (g ∙ sym (ap (λ b. cond (b && eqb (getD (cols .keys) i 0 / 8 % 8) a) (movedBy s (recAt cols statuses 0 i)) 0) here))
+        given-next cols market a s i sum term (movedBy s (recordIn cols i)) refl f
+        (g ∙ sym (ap (λ b. cond (b && eqb (getD (cols .keys) i 0 / 8 % 8) a) (movedBy s (recordIn cols i)) 0) here))
 
 -- ---- the power that a record moves
 

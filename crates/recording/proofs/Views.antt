@@ -14,11 +14,10 @@ use Rattle.calendar.specs.declared.clock.Clock.{Clock}
 use Rattle.ledger.specs.Ledger.{moved, movedBy, acquired, ceded}
 use Rattle.ledger.specs.Filing.{answers, pairs, changed}
 use Rattle.ledger.specs.Asking.{noRecord, recordAt, idsOf}
-use Rattle.tables.specs.Tables.{Columns, keyIn, downFrom, recordIn}
+use Rattle.tables.specs.Tables.{Columns, keyFrom, downFrom, recordIn}
 use Rattle.tables.specs.Passing.{lastBelow}
 use Rattle.tables.specs.declared.loads.Found.the-variants.{At, Nothing}
-use Rattle.tables.specs.declared.records.Records.{Records}
-use Rattle.recording.specs.Recording.{recAt, pairsBelow, Changed, gainedAt, givenAt, partyIn, idsBelow}
+use Rattle.recording.specs.Recording.{pairsBelow, withChanges, Changed, gainedAt, givenAt, partyIn, idsBelow}
 use Rattle.tables.proofs.Down.{down-same, down-map, down-sum, down-at, placeIn, last-below, down-place}
 
 -- ---- category and day as one number
@@ -65,70 +64,71 @@ turn-tests false q r m e = sym (and-not m)
     and-not true = refl
     and-not false = refl
 
-module _ (x : Records) (cols : Columns) where
+module _ (cols : Columns) where
   -- ---- a filing
 
   -- a filing is paired where one of the records below the count is answered
   pub pairs-view : (n by own : ℕ) (ps : List ℕ) →
-      pairs by (keyIn own) ps (downFrom (recordIn x cols) n) ≡ pairsBelow cols (x .statuses) n by own ps
+      pairs by (keyFrom own) ps (downFrom (recordIn cols) n) ≡ pairsBelow cols n by own ps
   unfolding pairs pairsBelow
   pairs-view zero by own ps = refl
-  pairs-view (suc n) by own ps = ap (λ b. answers by (keyIn own) ps (recAt cols (x .statuses) 0 n) || b) (pairs-view n by own ps)
+  pairs-view (suc n) by own ps = ap (λ b. answers by (keyFrom own) ps (recordIn cols n) || b) (pairs-view n by own ps)
 
   -- the records below the count are changed as the ledger changes them
-  pub changed-view : (paired : Bool) (clock : Clock) (by own : ℕ) (ps : List ℕ) (n : ℕ) (after : Columns) (next : List ℕ) →
-      Changed paired clock by own ps n cols after (x .statuses) next →
-      downFrom (recordIn (record { count = x .count; statuses = next; ids = x .ids }) after) n
-      ≡ map (changed paired clock by (keyIn own) ps) (downFrom (recordIn x cols) n)
-  changed-view paired clock by own ps n after next c =
-      down-same (recordIn (record { count = x .count; statuses = next; ids = x .ids }) after)
-      (λ i. changed paired clock by (keyIn own) ps (recordIn x cols i)) n
-      (λ i h. c .below (getD (x .ids) i 0) i h)
-      ∙ sym (down-map (changed paired clock by (keyIn own) ps) (recordIn x cols) n)
+  pub changed-view : (paired : Bool) (clock : Clock) (by own : ℕ) (ps : List ℕ) (n : ℕ)
+      (next : List ℕ) (after : List (List ℕ)) → Changed paired clock by own ps n cols next after →
+      downFrom (recordIn (withChanges cols next after)) n
+      ≡ map (changed paired clock by (keyFrom own) ps) (downFrom (recordIn cols) n)
+  changed-view paired clock by own ps n next after c =
+      down-same (recordIn (withChanges cols next after)) (λ i. changed paired clock by (keyFrom own) ps (recordIn cols i)) n
+      (c .below)
+      ∙ sym (down-map (changed paired clock by (keyFrom own) ps) (recordIn cols) n)
 
   -- ---- sums
 
   pub acquired-view : (n a z d s : ℕ) → z < 4 →
-      acquired (downFrom (recordIn x cols) n) a z d s ≡ sumTo n (gainedAt cols (x .statuses) (d * 4 + z) a s)
+      acquired (downFrom (recordIn cols) n) a z d s ≡ sumTo n (gainedAt cols (d * 4 + z) a s)
   unfolding acquired moved
   acquired-view n a z d s h =
-      down-sum (recordIn x cols) n _
-      ∙ sum-ext n _ (gainedAt cols (x .statuses) (d * 4 + z) a s)
-      (λ i. ap (λ b. cond b (movedBy s (recAt cols (x .statuses) 0 i)) 0)
+      down-sum (recordIn cols) n _
+      ∙ sum-ext n _ (gainedAt cols (d * 4 + z) a s)
+      (λ i. ap (λ b. cond b (movedBy s (recordIn cols i)) 0)
       (turn-tests (eqb (getD (cols .keys) i 0 % 8) a) (eqb (getD (cols .keys) i 0 / 64 % 4) z) (eqb (getD (cols .keys) i 0 / 256) d) _
       (market-same (getD (cols .keys) i 0) z d h)))
 
   pub ceded-view : (n a z d s : ℕ) → z < 4 →
-      ceded (downFrom (recordIn x cols) n) a z d s ≡ sumTo n (givenAt cols (x .statuses) (d * 4 + z) a s)
+      ceded (downFrom (recordIn cols) n) a z d s ≡ sumTo n (givenAt cols (d * 4 + z) a s)
   unfolding ceded moved
   ceded-view n a z d s h =
-      down-sum (recordIn x cols) n _
-      ∙ sum-ext n _ (givenAt cols (x .statuses) (d * 4 + z) a s)
-      (λ i. ap (λ b. cond b (movedBy s (recAt cols (x .statuses) 0 i)) 0)
+      down-sum (recordIn cols) n _
+      ∙ sum-ext n _ (givenAt cols (d * 4 + z) a s)
+      (λ i. ap (λ b. cond b (movedBy s (recordIn cols i)) 0)
       (turn-tests (eqb (getD (cols .keys) i 0 / 8 % 8) a) (eqb (getD (cols .keys) i 0 / 64 % 4) z) (eqb (getD (cols .keys) i 0 / 256) d) _
       (market-same (getD (cols .keys) i 0) z d h)))
 
   -- ---- ids
 
-  pub ids-view : (n a : ℕ) → idsOf a (downFrom (recordIn x cols) n) ≡ idsBelow (cols .keys) (x .ids) n a
+  pub ids-view : (n a : ℕ) → idsOf a (downFrom (recordIn cols) n) ≡ idsBelow (cols .keys) (cols .ids) n a
   unfolding idsOf idsBelow
   ids-view zero a = refl
-  ids-view (suc n) a = ap (λ l. l ++ cond (partyIn (getD (cols .keys) n 0) a) (getD (x .ids) n 0 ∷ []) []) (ids-view n a)
+  ids-view (suc n) a = ap (λ l. l ++ cond (partyIn (getD (cols .keys) n 0) a) (getD (cols .ids) n 0 ∷ []) []) (ids-view n a)
 
   -- the place of an id among the records, the newest being 0
-  place-view : (n id : ℕ) → recordAt (downFrom (recordIn x cols) n) id ≡ placeIn n (lastBelow (λ i. eqb (getD (x .ids) i 0) id) n)
+  place-view : (n id : ℕ) →
+      recordAt (downFrom (recordIn cols) n) id ≡ placeIn n (lastBelow (λ i. eqb (getD (cols .ids) i 0) id) n)
   unfolding recordAt
-  place-view n id = down-place (λ r. eqb (r .id) id) (recordIn x cols) n
+  place-view n id = down-place (λ r. eqb (r .id) id) (recordIn cols) n
 
-  pub found-view : (n id i : ℕ) → lastBelow (λ j. eqb (getD (x .ids) j 0) id) n ≡ At i →
-      (recordAt (downFrom (recordIn x cols) n) id < n)
-      × (getD (downFrom (recordIn x cols) n) (recordAt (downFrom (recordIn x cols) n) id) noRecord ≡ recordIn x cols i)
+  pub found-view : (n id i : ℕ) → lastBelow (λ j. eqb (getD (cols .ids) j 0) id) n ≡ At i →
+      (recordAt (downFrom (recordIn cols) n) id < n)
+      × (getD (downFrom (recordIn cols) n) (recordAt (downFrom (recordIn cols) n) id) noRecord ≡ recordIn cols i)
   found-view n id i e =
-      let b : i < n = last-below (λ j. eqb (getD (x .ids) j 0) id) n i e .0 in
-      let p : recordAt (downFrom (recordIn x cols) n) id ≡ n - 1 - i = place-view n id ∙ ap (placeIn n) e in
+      let b : i < n = last-below (λ j. eqb (getD (cols .ids) j 0) id) n i e .0 in
+      let p : recordAt (downFrom (recordIn cols) n) id ≡ n - 1 - i = place-view n id ∙ ap (placeIn n) e in
       let h : n - 1 - i < n = omega arith in
       let k : n - 1 - (n - 1 - i) ≡ i = omega arith in
-      (omega arith, rw p (down-at (recordIn x cols) n (n - 1 - i) noRecord h ∙ ap (recordIn x cols) k))
+      (omega arith, rw p (down-at (recordIn cols) n (n - 1 - i) noRecord h ∙ ap (recordIn cols) k))
 
-  pub missing-view : (n id : ℕ) → lastBelow (λ j. eqb (getD (x .ids) j 0) id) n ≡ Nothing → recordAt (downFrom (recordIn x cols) n) id ≡ n
+  pub missing-view : (n id : ℕ) → lastBelow (λ j. eqb (getD (cols .ids) j 0) id) n ≡ Nothing →
+      recordAt (downFrom (recordIn cols) n) id ≡ n
   missing-view n id e = place-view n id ∙ ap (placeIn n) e

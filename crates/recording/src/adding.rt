@@ -5,7 +5,8 @@ ghost use mathlib.Core.List.{List};
 ghost use Prim.Native.Nat.{ℕ, _<_, _≤_, _*_};
 ghost use Rattle.lists.specs.Sums.{sumTo};
 ghost use Rattle.ledger.specs.Ledger.{movedBy};
-ghost use Rattle.recording.specs.Recording.{recAt, gainedAt, givenAt};
+ghost use Rattle.tables.specs.Tables.{columns, recordIn};
+ghost use Rattle.recording.specs.Recording.{gainedAt, givenAt};
 use tables::markets::next_of;
 use tables::records::UPDATED;
 use tables::records::VALIDATED;
@@ -27,7 +28,9 @@ fn moved_by(
     s: u32,
 ) -> u32
     requires { ⌜ (i < 256) × (s < 50) ⌝ }
-    ensures { λ r. ⌜ ((keys : List ℕ) → r ≡ movedBy s (recAt (record { keys = keys; marks = now (marks .entry); rows = now (rows .entry) }) (now (statuses .entry)) 0 i)) × (r ≤ 65535) ⌝ }
+    ensures { λ r. ⌜ ((ids keys : List ℕ) →
+        r ≡ movedBy s (recordIn (columns (now (statuses .entry)) ids keys (now (marks .entry)) (now (rows .entry))) i))
+        × (r ≤ 65535) ⌝ }
 {
     let at = i as usize;
     let status = statuses[at];
@@ -50,7 +53,10 @@ fn moved_where(
     s: u32,
 ) -> u32
     requires { ⌜ (i < 256) × (s < 50) ⌝ }
-    ensures { λ r. ⌜ ((keys : List ℕ) → r ≡ cond on (movedBy s (recAt (record { keys = keys; marks = now (marks .entry); rows = now (rows .entry) }) (now (statuses .entry)) 0 i)) 0) × (r ≤ 65535) ⌝ }
+    ensures { λ r. ⌜ ((ids keys : List ℕ) →
+        r ≡ cond on
+        (movedBy s (recordIn (columns (now (statuses .entry)) ids keys (now (marks .entry)) (now (rows .entry))) i)) 0)
+        × (r ≤ 65535) ⌝ }
 {
     if on {
         return moved_by(statuses, marks, rows, i, s);
@@ -70,7 +76,10 @@ pub fn totals_of(
     s: u32,
 ) -> Totals
     requires { ⌜ (n ≤ 256) × (s < 50) ⌝ }
-    ensures { λ r. ⌜ ((r .gained ≡ sumTo n (gainedAt (record { keys = now (keys .entry); marks = now (marks .entry); rows = now (rows .entry) }) (now (statuses .entry)) market actor s)) × (r .given ≡ sumTo n (givenAt (record { keys = now (keys .entry); marks = now (marks .entry); rows = now (rows .entry) }) (now (statuses .entry)) market actor s))) × ((r .gained ≤ n * 65535) × (r .given ≤ n * 65535)) ⌝ }
+    ensures { λ r. ⌜ ((ids : List ℕ) →
+        let cols = columns (now (statuses .entry)) ids (now (keys .entry)) (now (marks .entry)) (now (rows .entry)) in
+        (r .gained ≡ sumTo n (gainedAt cols market actor s)) × (r .given ≡ sumTo n (givenAt cols market actor s)))
+        × ((r .gained ≤ n * 65535) × (r .given ≤ n * 65535)) ⌝ }
 {
     let mut gained: u32 = 0;
     let mut given: u32 = 0;

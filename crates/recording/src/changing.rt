@@ -1,14 +1,15 @@
 // What a filing makes of the records before it (rules 1 to 3).
 ghost use mathlib.Core.Path.{_≡_};
+ghost use mathlib.Core.List.{List};
 ghost use Prim.Native.Nat.{ℕ, _<_, _≤_, _/_};
-ghost use lib.ListN.{length, getD};
+ghost use lib.ListN.{getD};
 ghost use Rattle.calendar.specs.Clocks.{firstCounted};
 ghost use Rattle.calendar.specs.declared.clock.Clock.{Clock};
 ghost use Rattle.ledger.specs.Filing.{changed};
-ghost use Rattle.tables.specs.Tables.{keyIn};
-ghost use Rattle.tables.specs.Passing.{isUnder, Listed};
-ghost use Rattle.recording.specs.Recording.{recOf, ChangedAt, Changed};
+ghost use Rattle.tables.specs.Tables.{columns, keyFrom, recOf};
 ghost use Rattle.tables.specs.More.{withUntil};
+ghost use Rattle.tables.specs.Passing.{isUnder, PlacesOf};
+ghost use Rattle.recording.specs.Recording.{ChangedAt, Changed};
 use crate::pairing::same_powers;
 use calendar::Clock;
 use tables::records::ANSWERED;
@@ -18,6 +19,8 @@ use tables::records::OBSOLETE;
 use tables::records::UPDATED;
 use tables::records::VALIDATED;
 use tables::records::byte;
+use tables::sizes::size_marks;
+use tables::sizes::size_u8;
 
 // A record's status and until-step.
 pub struct Change {
@@ -37,7 +40,9 @@ fn change_of(
     row: [u16; 50],
 ) -> Change
     requires { ⌜ firstCounted clock (own / 256) < 256 ⌝ }
-    ensures { λ r. ⌜ ((id : ℕ) → (r .status ≡ changed paired clock by (keyIn own) ps (recOf id status own mark row) .status) × (r .until ≡ changed paired clock by (keyIn own) ps (recOf id status own mark row) .until)) ⌝ }
+    ensures { λ r. ⌜ ((id : ℕ) →
+        (r .status ≡ changed paired clock by (keyFrom own) ps (recOf id status own mark row) .status)
+        × (r .until ≡ changed paired clock by (keyFrom own) ps (recOf id status own mark row) .until)) ⌝ }
 {
     let until = mark[2];
     if status == CREATED {
@@ -61,7 +66,7 @@ fn change_of(
     if paired & (status == VALIDATED) {
         let day = own / 256;
         let first = clock.first_counted(day);
-        if (byte(mark[1]) == first) | (clock.day < day) {
+        if clock.replaces_whole(byte(mark[1]), day) {
             return Change {
                 status: OBSOLETE,
                 until: until,
@@ -101,7 +106,9 @@ fn change_at(
     ps: [u16; 50],
 )
     requires { ⌜ (i < 256) × (firstCounted clock (own / 256) < 256) ⌝ }
-    ensures { λ r. ⌜ ChangedAt paired clock by own ps i (record { keys = now (keys .entry); marks = now (marks .entry); rows = now (rows .entry) }) (record { keys = now (keys .entry); marks = now (marks .exit); rows = now (rows .entry) }) (now (statuses .entry)) (now (statuses .exit)) ⌝ }
+    ensures { λ r. ⌜ ((ids : List ℕ) → ChangedAt paired clock by own ps i
+        (columns (now (statuses .entry)) ids (now (keys .entry)) (now (marks .entry)) (now (rows .entry)))
+        (now (statuses .exit)) (now (marks .exit))) ⌝ }
 {
     let at = i as usize;
     if keys[at] == own {
@@ -112,19 +119,6 @@ fn change_at(
         statuses[at] = change.status;
         marks[at] = next;
     }
-}
-
-// How many statuses there are, and how many marks.
-fn statuses_long(s: &[u8]) -> usize
-    ensures { λ r. ⌜ r ≡ length (now (s .entry)) ⌝ }
-{
-    s.len()
-}
-
-fn marks_long(s: &[[u8; 4]]) -> usize
-    ensures { λ r. ⌜ r ≡ length (now (s .entry)) ⌝ }
-{
-    s.len()
 }
 
 // What a filing makes of the records: their statuses and until-steps. Those under its key are listed, and no other changes.
@@ -142,11 +136,15 @@ pub fn change_all(
     ps: [u16; 50],
 )
     requires { ⌜ (count ≤ 256) × (firstCounted clock (own / 256) < 256) ⌝ }
-    ensures { λ r. ⌜ ((n : ℕ) → Listed (isUnder (now (keys .entry)) own) n count (now (places .entry)) → Changed paired clock by own ps n (record { keys = now (keys .entry); marks = now (marks .entry); rows = now (rows .entry) }) (record { keys = now (keys .entry); marks = now (marks .exit); rows = now (rows .entry) }) (now (statuses .entry)) (now (statuses .exit))) ⌝ }
+    ensures { λ r. ⌜ ((ids : List ℕ) (n : ℕ) →
+        PlacesOf (isUnder (now (keys .entry)) own) n count (now (places .entry)) →
+        Changed paired clock by own ps n
+        (columns (now (statuses .entry)) ids (now (keys .entry)) (now (marks .entry)) (now (rows .entry)))
+        (now (statuses .exit)) (now (marks .exit))) ⌝ }
 {
     // Lent as slices, the columns show that they have 256 places.
-    let all_statuses = statuses_long(statuses);
-    let all_marks = marks_long(marks);
+    let all_statuses = size_u8(statuses);
+    let all_marks = size_marks(marks);
     let mut j: u32 = 0;
     while j < count {
         let i = byte(places[j as usize]);

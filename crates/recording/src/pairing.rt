@@ -1,10 +1,11 @@
 // Whether a filing is paired: the other party has a created record under the key with the same powers (rule 2).
 ghost use mathlib.Core.Path.{_≡_};
+ghost use mathlib.Core.List.{List};
 ghost use Prim.Native.Nat.{ℕ, _<_, _≤_};
 ghost use Rattle.ledger.specs.Filing.{samePowers, answers};
-ghost use Rattle.tables.specs.Tables.{keyIn};
-ghost use Rattle.tables.specs.Passing.{isUnder, Listed};
-ghost use Rattle.recording.specs.Recording.{recOf, pairsBelow};
+ghost use Rattle.tables.specs.Tables.{columns, keyFrom, recOf};
+ghost use Rattle.tables.specs.Passing.{isUnder, PlacesOf};
+ghost use Rattle.recording.specs.Recording.{pairsBelow};
 use tables::records::CREATED;
 use tables::records::byte;
 
@@ -31,7 +32,7 @@ fn is_answered(
     own: u32,
     ps: [u16; 50],
 ) -> bool
-    ensures { λ r. ⌜ r ≡ answers by (keyIn own) ps (recOf 0 status key mark row) ⌝ }
+    ensures { λ r. ⌜ r ≡ answers by (keyFrom own) ps (recOf 0 status key mark row) ⌝ }
 {
     if !(key == own) {
         return false;
@@ -58,7 +59,11 @@ pub fn is_paired(
     ps: [u16; 50],
 ) -> bool
     requires { ⌜ count ≤ 256 ⌝ }
-    ensures { λ r. ⌜ ((n : ℕ) → Listed (isUnder (now (keys .entry)) own) n count (now (places .entry)) → r ≡ pairsBelow (record { keys = now (keys .entry); marks = now (marks .entry); rows = now (rows .entry) }) (now (statuses .entry)) n by own ps) ⌝ }
+    ensures { λ r. ⌜ ((ids : List ℕ) (n : ℕ) →
+        PlacesOf (isUnder (now (keys .entry)) own) n count (now (places .entry)) →
+        r ≡ pairsBelow
+        (columns (now (statuses .entry)) ids (now (keys .entry)) (now (marks .entry)) (now (rows .entry)))
+        n by own ps) ⌝ }
 {
     let mut found = false;
     let mut j: u32 = 0;

@@ -5,7 +5,7 @@ use mathlib.Core.List.{List, [], _∷_, _++_}
 use Prim.Native.Nat.{ℕ, zero, suc, _<_}
 use native.Mathlib.Omega.{arith}
 use lib.ListN.{length, getD}
-use Rattle.refusals.specs.Tests.{Test, firstMet, decide}
+use Rattle.refusals.specs.Tests.{Test, firstMet, decide, tried}
 use Rattle.refusals.specs.declared.Refusal.{Refusal}
 use Rattle.refusals.specs.declared.Verdict.{Verdict}
 use Rattle.refusals.specs.declared.Verdict.the-variants.{Pass, No}
@@ -85,3 +85,45 @@ pub decided : {A : Type 0} (P : A → Type 0) (v : Verdict) (done : A) (refused 
     (v ≡ Pass → P done) → ((r : Refusal) → v ≡ No r → P (refused r)) → P (decide v done refused)
 decided P Pass done refused f g = f refl
 decided P (No r) done refused f g = g r refl
+
+-- ---- tests tried one after another
+
+pub tried-met : (v : Verdict) (met : Bool) (r : Refusal) → v ≡ Pass → met ≡ true → No r ≡ tried v (met, r)
+tried-met v met r e m = rw (e, m)
+
+pub tried-after : (v : Verdict) (q : Refusal) (met : Bool) (r : Refusal) → v ≡ No q → No q ≡ tried v (met, r)
+tried-after v q met r e = rw e
+
+abbrev pub triedAll : Verdict → List Test → Verdict
+triedAll v [] = v
+triedAll v (t ∷ ts) = triedAll (tried v t) ts
+
+-- one test more, of a verdict that those before it came to
+pub then-tried : (u v w : Verdict) (met : Bool) (r : Refusal) → w ≡ tried v (met, r) → v ≡ u → w ≡ tried u (met, r)
+then-tried u v w met r e f = e ∙ ap (λ v. tried v (met, r)) f
+
+refused-stays : (r : Refusal) (ts : List Test) → triedAll (No r) ts ≡ No r
+refused-stays r [] = refl
+refused-stays r (t ∷ ts) = refused-stays r ts
+
+-- they come to the first that is met
+pub tried-first : (ts : List Test) → triedAll Pass ts ≡ firstMet ts
+tried-first [] = refl
+tried-first (t ∷ ts) = go (t .0) refl (tried-first ts)
+  where
+    go : (b : Bool) → t .0 ≡ b → triedAll Pass ts ≡ firstMet ts → triedAll (tried Pass t) ts ≡ firstMet (t ∷ ts)
+    go true e h = rw e (refused-stays (t .1) ts)
+    go false e h = rw e h
+
+-- one list, and a test after it
+pub tried-append : (ts : List Test) (t : Test) → firstMet (ts ++ (t ∷ [])) ≡ tried (firstMet ts) t
+tried-append ts t = go (firstMet ts) refl
+  where
+    go : (v : Verdict) → firstMet ts ≡ v → firstMet (ts ++ (t ∷ [])) ≡ tried v t
+    go Pass e = pass-append ts (t ∷ []) e
+    go (No r) e = refuse-append r ts (t ∷ []) e
+
+-- where it passes, those before it pass
+pub tried-passed : (v : Verdict) (t : Test) → tried v t ≡ Pass → v ≡ Pass
+tried-passed Pass t e = refl
+tried-passed (No r) t e = refused-pass r e

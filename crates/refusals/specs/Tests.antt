@@ -29,3 +29,7 @@ firstMet (t ∷ ts) = cond (t .0) (No (t .1)) (firstMet ts)
 abbrev pub decide : {A : Type 0} → Verdict → A → (Refusal → A) → A
 decide Pass done refused = done
 decide (No r) done refused = refused r
+
+-- one test more: it is tried where those before it pass
+abbrev pub tried : Verdict → Test → Verdict
+tried v t = decide v (firstMet (t ∷ [])) No

@@ -2,6 +2,8 @@
 ghost use mathlib.Core.Path.{_≡_};
 ghost use Rattle.refusals.specs.Numbers.{inputNumber, stateNumber, numberOf, placeOf};
 
+pub mod trying;
+
 // Refusals that come from the input, 1 to 10. (11 is the program's alone.)
 pub enum InputRefusal {
     // 1: the name isn't of that form

@@ -1,86 +1,128 @@
 -- What the tests of a call come to for the ledger that a head holds, by what the code has found of each.
-use mathlib.Core.Path.{_≡_, sym, _∙_, ap}
-use mathlib.Core.Bool.{Bool, true, false, not, _&&_}
-use mathlib.Core.List.{List, [], _∷_}
+use mathlib.Core.Path.{_≡_, refl, sym, _∙_, ap}
+use mathlib.Core.Bool.{Bool, true, false, not, _&&_, _||_}
+use mathlib.Core.List.{List, [], _∷_, _++_}
 use Prim.Native.Nat.{ℕ, _+_, _≤_, _<_, min}
 use native.Mathlib.Omega.{arith}
 use lib.Dec.{leb, ltb, eqb}
-use lib.ListN.{length, getD, take, length-map}
-use lib.Seq.{take-all, length-take-le}
+use lib.ListN.{length, getD, take}
+use lib.Seq.{take-all}
 use borrow.Author.Tests.{eq-eqb, ne-eqb, ltb-true, not-false}
 use Rattle.lists.specs.Searches.{every}
 use Rattle.calendar.specs.Dates.{dayCount}
 use Rattle.calendar.specs.Steps.{stepsOf}
-use Rattle.refusals.specs.Tests.{input, state, firstMet}
+use Rattle.calendar.specs.Clocks.{loadable}
+use Rattle.refusals.specs.Tests.{Test, input, state, firstMet}
+use Rattle.refusals.specs.declared.Refusal.{Refusal}
+use Rattle.refusals.specs.declared.Verdict.the-variants.{Pass, No}
+use Rattle.refusals.proofs.Tests.{pass-all, pass-append, refuse-append, triedAll, tried-first}
 use Rattle.refusals.specs.declared.InputRefusal.the-variants.{Form, Range}
-use Rattle.refusals.specs.declared.StateRefusal.the-variants.{ActorUnknown, CategoryUnknown, Full, There, LoadDay}
+use Rattle.refusals.specs.declared.StateRefusal.the-variants.{CederUnknown, AcquirerUnknown, ActorUnknown, CategoryUnknown, NotParty, OneActor, Full, There, LoadDay}
 use Rattle.notification.specs.Forms.{isCode, isCategory, powerEnd}
 use Rattle.lists.proofs.Tests.{and-left}
 use Rattle.notification.proofs.Tested.{every-more}
-use Rattle.ledger.specs.Ledger.{actorAt, categoryAt, hasLoad}
-use Rattle.ledger.specs.Calls.{actorTests, categoryTests, loadRanged, loadable, loadTests}
-use Rattle.tables.specs.Tables.{Columns, actorsIn, categoriesIn, loadsIn, loadNumber}
-use Rattle.tables.specs.Passing.{lastLoad}
-use Rattle.tables.specs.declared.actors.Actors.{Actors}
-use Rattle.tables.specs.declared.categories.Categories.{Categories}
-use Rattle.tables.specs.declared.loads.Loads.{Loads}
+use Rattle.ledger.specs.Ledger.{Key, actorAt, categoryAt, hasLoad}
+use Rattle.ledger.specs.Filing.{partyTests}
+use Rattle.ledger.specs.Calls.{actorTests, categoryTests, loadRanged, loadTests}
+use Rattle.ledger.specs.Asking.{engagementTests}
+use Rattle.tables.specs.Tables.{Columns, LoadColumns, columns, loadColumns, actorsIn, categoriesIn, loadsIn, loadNumber}
+use Rattle.tables.specs.Passing.{lastLoad, isAt}
 use Rattle.tables.specs.declared.loads.Found.{Found}
-use Rattle.tables.proofs.Down.{isAt}
 use Rattle.tables.proofs.LoadTable.{loads-length, found-load}
 use Rattle.register.specs.View.{view}
 use Rattle.register.specs.declared.Head.{Head}
 
 -- no columns, to ask what doesn't depend on them
 abbrev pub noColumns : Columns
-noColumns = record { keys = []; marks = []; rows = [] }
+noColumns = columns [] [] [] [] []
 
--- ---- how many actors and categories there are
+abbrev pub noLoads : LoadColumns
+noLoads = loadColumns [] [] []
 
-pub actors-many : (x : Actors) → length (x .entries) ≡ 8 → length (actorsIn x) ≡ min (x .count) 8
-unfolding actorsIn
-actors-many x e = length-take-le (min (x .count) 8) (x .entries) (omega arith)
+not-not : (b : Bool) → not (not b) ≡ b
+not-not true = refl
+not-not false = refl
 
-pub categories-many : (x : Categories) → length (x .entries) ≡ 4 → length (categoriesIn x) ≡ min (x .count) 4
-unfolding categoriesIn
-categories-many x e =
-    length-map (take (min (x .count) 4) (x .entries)) _ ∙ length-take-le (min (x .count) 4) (x .entries) (omega arith)
+-- ---- the tests of each call, one after the other, by how many actors and categories there are
 
--- ---- the tests of each call
+module _ (h : Head) (cols : Columns) (loads : LoadColumns) where
+  abbrev actorTried : Bool → ℕ → ℕ → ℕ → ℕ → List Test
+  actorTried form first last n at =
+      (not form, input Form) ∷ (not (ltb first dayCount && ltb last dayCount && leb first last), input Range)
+      ∷ (ltb at n, state There) ∷ (not (ltb n 8), state Full) ∷ []
 
-module _ (h : Head) (cols : Columns) (loads : List (List ℕ)) where
-  pub actor-is : (code : List ℕ) (first last n at : ℕ) → length (h .actors .entries) ≡ 8 → n ≡ min (h .actors .count) 8 →
-      at ≡ actorAt (actorsIn (h .actors)) code → (t1 t2 t3 t4 : Bool) → isCode code ≡ t1 →
-      (ltb first dayCount && ltb last dayCount && leb first last) ≡ t2 → ltb at n ≡ t3 → ltb n 8 ≡ t4 →
-      firstMet ((not t1, input Form) ∷ (not t2, input Range) ∷ (not (not t3), state There) ∷ (not t4, state Full) ∷ [])
-      ≡ firstMet (actorTests (view h cols loads) code first last)
+  pub actor-is : (code : List ℕ) (first last n at : ℕ) (form : Bool) → length (actorsIn (h .actors)) ≡ n →
+      at ≡ actorAt (actorsIn (h .actors)) code → form ≡ isCode code →
+      triedAll Pass (actorTried form first last n at) ≡ firstMet (actorTests (view h cols loads) code first last)
   unfolding view actorTests
-  actor-is code first last n at l en ea t1 t2 t3 t4 e1 e2 e3 e4 =
-      let k : length (actorsIn (h .actors)) ≡ n = actors-many (h .actors) l ∙ sym en in
-      rw (k, ← ea, e1, e2, e3, e4)
+  actor-is code first last n at form en ea ef =
+      tried-first (actorTried form first last n at) ∙ rw (en, ← ea, ← ef, not-not (ltb at n))
 
-  pub category-is : (text : List ℕ) (n at : ℕ) → length (h .categories .entries) ≡ 4 → n ≡ min (h .categories .count) 4 →
-      at ≡ categoryAt (categoriesIn (h .categories)) text → (t1 t2 t3 : Bool) → isCategory text ≡ t1 → ltb at n ≡ t2 → ltb n 4 ≡ t3 →
-      firstMet ((not t1, input Form) ∷ (not (not t2), state There) ∷ (not t3, state Full) ∷ [])
-      ≡ firstMet (categoryTests (view h cols loads) text)
+  abbrev categoryTried : Bool → ℕ → ℕ → List Test
+  categoryTried form n at = (not form, input Form) ∷ (ltb at n, state There) ∷ (not (ltb n 4), state Full) ∷ []
+
+  pub category-is : (text : List ℕ) (n at : ℕ) (form : Bool) → length (categoriesIn (h .categories)) ≡ n →
+      at ≡ categoryAt (categoriesIn (h .categories)) text → form ≡ isCategory text →
+      triedAll Pass (categoryTried form n at) ≡ firstMet (categoryTests (view h cols loads) text)
   unfolding view categoryTests
-  category-is text n at l en ea t1 t2 t3 e1 e2 e3 =
-      let k : length (categoriesIn (h .categories)) ≡ n = categories-many (h .categories) l ∙ sym en in
-      rw (k, ← ea, e1, e2, e3)
+  category-is text n at form en ea ef = tried-first (categoryTried form n at) ∙ rw (en, ← ea, ← ef, not-not (ltb at n))
 
-  pub load-is : (actor category : List ℕ) (day most : ℕ) (ps : List ℕ) (n m k a z : ℕ) → length (h .actors .entries) ≡ 8 →
-      length (h .categories .entries) ≡ 4 → n ≡ min (h .actors .count) 8 → m ≡ min (h .categories .count) 4 →
-      k ≡ min (h .loads .count) 64 → a ≡ actorAt (actorsIn (h .actors)) actor → z ≡ categoryAt (categoriesIn (h .categories)) category →
-      (t1 t2 t3 t4 t5 t6 : Bool) → loadRanged day most ps ≡ t1 → ltb a n ≡ t2 → ltb z m ≡ t3 → ltb (h .clock .day) day ≡ t4 →
-      hasLoad (loadsIn (h .loads) loads) a z day ≡ t5 → ltb k 64 ≡ t6 →
-      firstMet ((not t1, input Range) ∷ (not t2, state ActorUnknown) ∷ (not t3, state CategoryUnknown) ∷ (not t4, state LoadDay)
-      ∷ (t5, state There) ∷ (not t6, state Full) ∷ [])
-      ≡ firstMet (loadTests (view h cols loads) actor category day most ps)
-  unfolding view loadTests loadable
-  load-is actor category day most ps n m k a z la lz en em ek ea ez t1 t2 t3 t4 t5 t6 e1 e2 e3 e4 e5 e6 =
-      let na : length (actorsIn (h .actors)) ≡ n = actors-many (h .actors) la ∙ sym en in
-      let nz : length (categoriesIn (h .categories)) ≡ m = categories-many (h .categories) lz ∙ sym em in
-      let nl : length (loadsIn (h .loads) loads) ≡ k = loads-length (h .loads) loads ∙ sym ek in
-      rw (na, nz, nl, ← ea, ← ez, e1, e2, e3, e4, e5, e6)
+  module _ (n m : ℕ) (en : length (actorsIn (h .actors)) ≡ n) (em : length (categoriesIn (h .categories)) ≡ m) where
+    -- 20 to 25
+    abbrev partyTried : Key → ℕ → List Test
+    partyTried k by =
+        (not (ltb (k .ceder) n), state CederUnknown) ∷ (not (ltb (k .acquirer) n), state AcquirerUnknown)
+        ∷ (not (ltb by n), state ActorUnknown) ∷ (not (ltb (k .category) m), state CategoryUnknown)
+        ∷ (not (eqb by (k .ceder) || eqb by (k .acquirer)), state NotParty) ∷ (eqb (k .ceder) (k .acquirer), state OneActor) ∷ []
+
+    pub party-is : (k : Key) (by : ℕ) → triedAll Pass (partyTried k by) ≡ firstMet (partyTests (view h cols loads) k by)
+    unfolding view partyTests
+    party-is k by = tried-first (partyTried k by) ∙ rw (en, em)
+
+    module _ (actor category : List ℕ) (a z : ℕ) (ea : a ≡ actorAt (actorsIn (h .actors)) actor)
+        (ez : z ≡ categoryAt (categoriesIn (h .categories)) category) where
+      abbrev engagementTried : ℕ → ℕ → List Test
+      engagementTried s until =
+          (not (ltb a n), state ActorUnknown) ∷ (not (ltb z m), state CategoryUnknown) ∷ (not (ltb s until), input Range) ∷ []
+
+      pub engagement-is : (day s until : ℕ) → until ≡ stepsOf day →
+          triedAll Pass (engagementTried s until) ≡ firstMet (engagementTests (view h cols loads) actor category day s)
+      unfolding view engagementTests
+      engagement-is day s until eu = tried-first (engagementTried s until) ∙ rw (en, em, ← ea, ← ez, ← eu)
+
+      -- a load: 10, 22, 23, 39, then 37 and 36
+      module _ (day most : ℕ) (ps : List ℕ) (ranged later : Bool) (er : ranged ≡ loadRanged day most ps) (el : later ≡ loadable (h .clock) day) where
+        abbrev named : List Test
+        named =
+            (not ranged, input Range) ∷ (not (ltb a n), state ActorUnknown) ∷ (not (ltb z m), state CategoryUnknown)
+            ∷ (not later, state LoadDay) ∷ []
+
+        abbrev placed : List Test
+        placed =
+            (hasLoad (loadsIn (h .loads) loads) a z day, state There)
+            ∷ (not (ltb (length (loadsIn (h .loads) loads)) 64), state Full) ∷ []
+
+        load-parts : firstMet (named ++ placed) ≡ firstMet (loadTests (view h cols loads) actor category day most ps)
+        unfolding view loadTests
+        load-parts = rw (en, em, ← ea, ← ez, ← er, ← el)
+
+        pub load-refused : (f : Refusal) → triedAll Pass named ≡ No f → No f ≡ firstMet (loadTests (view h cols loads) actor category day most ps)
+        load-refused f e = sym (refuse-append f named placed (sym (tried-first named) ∙ e)) ∙ load-parts
+
+        module _ (e : triedAll Pass named ≡ Pass) where
+          -- what is left to be known of it
+          pub load-named : (ranged ≡ true) × (a < n) × (z < m)
+          load-named =
+              let f = pass-all named (sym (tried-first named) ∙ e) in
+              (not-false ranged (f .0), ltb-true a n (not-false _ (f .1 .0)), ltb-true z m (not-false _ (f .1 .1 .0)))
+
+          pub load-is : (k : ℕ) (there : Bool) → k ≡ min (h .loads) 64 → there ≡ hasLoad (loadsIn (h .loads) loads) a z day →
+              triedAll Pass ((there, state There) ∷ (not (ltb k 64), state Full) ∷ [])
+              ≡ firstMet (loadTests (view h cols loads) actor category day most ps)
+          load-is k there ek et =
+              tried-first ((there, state There) ∷ (not (ltb k 64), state Full) ∷ [])
+              ∙ rw (et, ek ∙ sym (loads-length (h .loads) loads))
+              (sym (pass-append named placed (sym (tried-first named) ∙ e)) ∙ load-parts)
 
 -- ---- the ranges of a load
 
@@ -116,12 +158,8 @@ module _ (day most : ℕ) (ps : List ℕ) where
 
 -- ---- what a load's tests have found
 
--- a place below the lesser of a count and the places
-pub place-below : (at n count places : ℕ) → n ≡ min count places → not (ltb at n) ≡ false → at < places
-place-below at n count places e t = omega (arith, ltb-true at n (not-false _ t))
-
 -- what the search for a load's number finds tells whether there is such a load
-pub has-load : (x : Loads) (rows : List (List ℕ)) (a z d number : ℕ) (f g : Found) → a < 8 → z < 4 → number ≡ loadNumber a z d →
-    f ≡ lastLoad x number → f ≡ g → hasLoad (loadsIn x rows) a z d ≡ isAt g
-has-load x rows a z d number f g ha hz en ef eg =
-    found-load x rows a z d ha hz ∙ ap isAt (ap (lastLoad x) (sym en) ∙ sym ef ∙ eg)
+pub has-load : (n : ℕ) (cols : LoadColumns) (a z d number : ℕ) (f : Found) → a < 8 → z < 4 → number ≡ loadNumber a z d →
+    f ≡ lastLoad (cols .keys) n number → isAt f ≡ hasLoad (loadsIn n cols) a z d
+has-load n cols a z d number f ha hz en ef =
+    ap isAt (ef ∙ ap (lastLoad (cols .keys) n) en) ∙ sym (found-load n cols a z d ha hz)

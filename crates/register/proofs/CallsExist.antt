@@ -1,173 +1,114 @@
 -- Each call but a filing can be made on every register whose arrays have their places.
 use mathlib.Core.Path.{_≡_, refl, sym, _∙_}
 use mathlib.Core.List.{List, []}
-use Prim.Native.Nat.{ℕ}
-use lib.ListN.{set, length-set}
-use Rattle.refusals.specs.declared.Refusal.{Refusal}
+use Prim.Native.Nat.{ℕ, _+_}
+use lib.ListN.{length, length-set}
 use Rattle.refusals.specs.declared.Verdict.{Verdict}
 use Rattle.refusals.specs.declared.Verdict.the-variants.{Pass, No}
 use Rattle.notification.specs.Forms.{sixBytes, inPlaces}
 use Rattle.ledger.specs.Ledger.{actorAt, categoryAt}
 use Rattle.ledger.specs.Call.{Call, enrolActor, enrolCategory, load, advance}
 use Rattle.ledger.specs.Calls.{verdictOf, effect, actorTests, categoryTests, loadTests, moment}
+use Rattle.ledger.specs.declared.Answer.{Answer}
 use Rattle.ledger.specs.declared.Answer.the-variants.{Moved, Held, Refused}
-use Rattle.tables.specs.Tables.{Columns, loadNumber}
-use Rattle.tables.specs.More.{moreActors, moreCategories, moreLoads}
+use Rattle.tables.specs.Tables.{Columns, LoadColumns, loadNumber}
+use Rattle.tables.specs.More.{moreActors, moreCategories, loadPut}
 use Rattle.tables.specs.declared.actors.Actors.{Actors}
 use Rattle.tables.specs.declared.categories.Categories.{Categories}
-use Rattle.tables.specs.declared.loads.Loads.{Loads}
-use Rattle.tables.proofs.Entries.{actor-more, category-more}
-use Rattle.tables.proofs.LoadTable.{one-more}
-use Rattle.register.specs.View.{Register, view, held}
-use Rattle.register.specs.Written.{actorsPut, categoriesPut, loadsPut, clockPut, writes, does, seen}
-use Rattle.register.proofs.Steps.{does-refused, does-passed, actor-room, actor-done, category-room, category-done, load-room, load-done, load-put}
-use Rattle.register.proofs.Runs.{did-actor, did-category, did-load, did-advance}
-use Rattle.register.proofs.Sized.{Sized, lent, Next}
+use Rattle.register.specs.View.{Register, lent, view, held}
+use Rattle.register.specs.Written.{withClock, withActors, withCategories, withLoads, writes, does, seen}
+use Rattle.register.specs.declared.Head.{Head}
+use Rattle.register.proofs.Steps.{does-refused, does-passed, actor-done, category-done, load-done}
+use Rattle.register.proofs.Runs.{Did, did-actor, did-category, did-load, did-advance}
+use Rattle.register.proofs.Sized.{LoadsSized, Sized, ref, Next}
 
 -- ---- calls that are judged by the head alone: the clock, an actor, a category
 
--- such a call is refused: whatever the columns, the register is left as it was
-module _ (r : Register) (c : Call) (f : Refusal) where
-  refused-any : (same : (cols : Columns) (ls : List (List ℕ)) → No f ≡ verdictOf (view (r .head) cols ls) c) (cols : Columns) (ls : List (List ℕ)) →
-      seen (record { head = r .head; columns = cols; loads = ls }) (Refused f) ≡ does (record { head = r .head; columns = cols; loads = ls }) c
-  refused-any same cols ls = does-refused (record { head = r .head; columns = cols; loads = ls }) c (No f) f (same cols ls) refl
+module _ (r : Register) (c : Call) (z : Sized r) where
+  -- such a call leaves a head, whatever the columns
+  abbrev LeavesHead : Head → Answer → Type 0
+  LeavesHead h y = (cols : Columns) (ls : LoadColumns) → seen (lent h cols ls) y ≡ does (lent (r .head) cols ls) c
 
-advance-any : (r : Register) (day minute : ℕ) (v : Verdict) → v ≡ verdictOf (held r) (advance day minute) →
-    (cols : Columns) (ls : List (List ℕ)) → v ≡ verdictOf (view (r .head) cols ls) (advance day minute)
-unfolding verdictOf view
-advance-any r day minute v e cols ls = e
+  module _ (did : (h : Head) (y : Answer) → LeavesHead h y → Did r c y (lent h (r .columns) (r .loads))) where
+    next-head : (h : Head) (y : Answer) → length (h .actors .entries) ≡ 8 → length (h .categories .entries) ≡ 4 → LeavesHead h y → Next r c
+    next-head h y la lz e =
+        record {
+          answer = y;
+          register = lent h (r .columns) (r .loads);
+          did = did h y e;
+          sized = record { actors = la; categories = lz; loads = z .loads; records = z .records };
+        }
+
+    by-head : (h : Head) (y : Answer) → length (h .actors .entries) ≡ 8 → length (h .categories .entries) ≡ 4 → (v : Verdict) →
+        ((cols : Columns) (ls : LoadColumns) → v ≡ verdictOf (view (r .head) cols ls) c) → (v ≡ Pass → LeavesHead h y) → Next r c
+    by-head h y la lz (No f) j e =
+        next-head (r .head) (Refused f) (z .actors) (z .categories)
+        (λ cols ls. does-refused (lent (r .head) cols ls) c (No f) f (j cols ls) refl)
+    by-head h y la lz Pass j e = next-head h y la lz (e refl)
 
 pub next-advance : (r : Register) (day minute : ℕ) → Sized r → (v : Verdict) → v ≡ verdictOf (held r) (advance day minute) → Next r (advance day minute)
-unfolding effect view writes
-next-advance r day minute z (No f) e =
-    record {
-      answer = Refused f;
-      register = r;
-      did = did-advance (r .columns) (r .loads) (r .head, (day, (minute, tt))) (record { head = r .head; answer = Refused f }) (r .head, (day, (minute, tt)))
-          (λ t. refused-any r (advance day minute) f (advance-any r day minute (No f) e));
-      sized = z;
-    }
-next-advance r day minute z Pass e =
-    let next = clockPut r (moment day minute) in
-    record {
-      answer = Moved;
-      register = next;
-      did = did-advance (r .columns) (r .loads) (r .head, (day, (minute, tt))) (record { head = next .head; answer = Moved }) (r .head, (day, (minute, tt)))
-          (λ t cols ls.
-          does-passed (record { head = r .head; columns = cols; loads = ls }) _ (advance day minute) Moved Pass (advance-any r day minute Pass e cols ls) refl refl refl);
-      sized = record { actors = z .actors; categories = z .categories; loads = z .loads; records = z .records };
-    }
-
-actor-any : (r : Register) (code : List ℕ) (first last : ℕ) (v : Verdict) → v ≡ verdictOf (held r) (enrolActor code first last) →
-    (cols : Columns) (ls : List (List ℕ)) → v ≡ verdictOf (view (r .head) cols ls) (enrolActor code first last)
-unfolding verdictOf view actorTests
-actor-any r code first last v e cols ls = e
+unfolding verdictOf effect view writes
+next-advance r day minute z v e =
+    by-head r (advance day minute) z
+    (λ h y s. did-advance (r .columns) (r .loads) (r .head, (day, (minute, tt))) (record { head = h; answer = y }) (r .head, (day, (minute, tt))) (λ t. s))
+    (withClock (r .head) (moment day minute)) Moved (z .actors) (z .categories) v (λ cols ls. e)
+    (λ p cols ls. does-passed (lent (r .head) cols ls) _ (advance day minute) Moved v e p refl refl)
 
 pub next-actor : (r : Register) (code : List ℕ) (first last : ℕ) → Sized r → (v : Verdict) → v ≡ verdictOf (held r) (enrolActor code first last) →
     Next r (enrolActor code first last)
-unfolding verdictOf writes
-next-actor r code first last z (No f) e =
-    record {
-      answer = Refused f;
-      register = r;
-      did = did-actor (r .columns) (r .loads) ([], tt) (r .head, (lent code, (first, (last, tt)))) (record { head = r .head; answer = Refused f }) (r .head, (lent code, (first, (last, tt))))
-          (λ t. refused-any r (enrolActor code first last) f (actor-any r code first last (No f) e));
-      sized = z;
-    }
-next-actor r code first last z Pass e =
+unfolding verdictOf view actorTests
+next-actor r code first last z v e =
     let h = r .head in
     let x : Actors = moreActors (h .actors) (record { code = code; first = first; last = last }) in
-    let any = actor-any r code first last Pass e in
-    let room = actor-room h code first last Pass (z .actors) any refl in
-    record {
-      answer = Held (x .count);
-      register = actorsPut r x;
-      did = did-actor (r .columns) (r .loads) ([], tt) (h, (lent code, (first, (last, tt)))) (record { head = actorsPut r x .head; answer = Held (x .count) }) (h, (lent code, (first, (last, tt))))
-          (λ t cols ls.
-          does-passed (record { head = h; columns = cols; loads = ls }) _ (enrolActor code first last) (Held (x .count)) Pass (any cols ls) refl refl
-          (actor-done h cols ls code code first last x (z .actors) (room .1) refl (actor-more (h .actors) _ (z .actors) (room .1)) refl));
-      sized = record { actors = length-set (h .actors .entries) (h .actors .count) _ ∙ z .actors; categories = z .categories; loads = z .loads; records = z .records };
-    }
-
-category-any : (r : Register) (text : List ℕ) (v : Verdict) → v ≡ verdictOf (held r) (enrolCategory text) →
-    (cols : Columns) (ls : List (List ℕ)) → v ≡ verdictOf (view (r .head) cols ls) (enrolCategory text)
-unfolding verdictOf view categoryTests
-category-any r text v e cols ls = e
+    by-head r (enrolActor code first last) z
+    (λ h y s. did-actor (r .columns) (r .loads) ([], tt) (r .head, (ref code, (first, (last, tt)))) (record { head = h; answer = y }) (r .head, (ref code, (first, (last, tt)))) (λ t. s))
+    (withActors h x) (Held (x .count)) (length-set (h .actors .entries) (h .actors .count) _ ∙ z .actors) (z .categories) v (λ cols ls. e)
+    (λ p cols ls. actor-done h cols ls code first last (z .actors) (sym e ∙ p) code x refl refl)
 
 pub next-category : (r : Register) (text : List ℕ) → Sized r → (v : Verdict) → v ≡ verdictOf (held r) (enrolCategory text) → Next r (enrolCategory text)
-unfolding verdictOf writes
-next-category r text z (No f) e =
-    record {
-      answer = Refused f;
-      register = r;
-      did = did-category (r .columns) (r .loads) ([], tt) (r .head, (lent text, tt)) (record { head = r .head; answer = Refused f }) (r .head, (lent text, tt))
-          (λ t. refused-any r (enrolCategory text) f (category-any r text (No f) e));
-      sized = z;
-    }
-next-category r text z Pass e =
+unfolding verdictOf view categoryTests
+next-category r text z v e =
     let h = r .head in
     let x : Categories = moreCategories (h .categories) (record { text = sixBytes text }) in
-    let any = category-any r text Pass e in
-    let room = category-room h text Pass (z .categories) any refl in
-    record {
-      answer = Held (x .count);
-      register = categoriesPut r x;
-      did = did-category (r .columns) (r .loads) ([], tt) (h, (lent text, tt)) (record { head = categoriesPut r x .head; answer = Held (x .count) }) (h, (lent text, tt))
-          (λ t cols ls.
-          does-passed (record { head = h; columns = cols; loads = ls }) _ (enrolCategory text) (Held (x .count)) Pass (any cols ls) refl refl
-          (category-done h cols ls text (sixBytes text) x (z .categories) (room .1) (room .0) refl (category-more (h .categories) _ (z .categories) (room .1)) refl));
-      sized = record { actors = z .actors; categories = length-set (h .categories .entries) (h .categories .count) _ ∙ z .categories; loads = z .loads; records = z .records };
-    }
+    by-head r (enrolCategory text) z
+    (λ h y s. did-category (r .columns) (r .loads) ([], tt) (r .head, (ref text, tt)) (record { head = h; answer = y }) (r .head, (ref text, tt)) (λ t. s))
+    (withCategories h x) (Held (x .count)) (z .actors) (length-set (h .categories .entries) (h .categories .count) _ ∙ z .categories) v (λ cols ls. e)
+    (λ p cols ls. category-done h cols ls text (z .categories) (sym e ∙ p) (sixBytes text) x refl refl)
 
 -- ---- a load
 
-load-any : (r : Register) (actor category : List ℕ) (day most : ℕ) (ps : List ℕ) (v : Verdict) → v ≡ verdictOf (held r) (load actor category day most ps) →
-    (cols : Columns) → v ≡ verdictOf (view (r .head) cols (r .loads)) (load actor category day most ps)
-unfolding verdictOf view loadTests
-load-any r actor category day most ps v e cols = e
+module _ (r : Register) (actor category : List ℕ) (day most : ℕ) (ps : List ℕ) (z : Sized r) where
+  abbrev loading : Call
+  loading = load actor category day most ps
 
-pub next-load : (r : Register) (actor category : List ℕ) (day most : ℕ) (ps : List ℕ) → Sized r → (v : Verdict) →
-    v ≡ verdictOf (held r) (load actor category day most ps) → Next r (load actor category day most ps)
-unfolding verdictOf view
-next-load r actor category day most ps z (No f) e =
-    record {
-      answer = Refused f;
-      register = r;
-      did = did-load (r .columns) ([], ([], ([], ([], tt)))) (r .head, (lent (r .loads), (lent actor, (lent category, (day, (most, (lent ps, tt))))))) (record { head = r .head; answer = Refused f }) (r .head, (lent (r .loads), (lent actor, (lent category, (day, (most, (lent ps, tt)))))))
-          (λ t cols.
-          does-refused (record { head = r .head; columns = cols; loads = r .loads }) (load actor category day most ps) (No f) f
-          (load-any r actor category day most ps (No f) e cols) refl);
-      sized = z;
-    }
-next-load r actor category day most ps z Pass e =
-    let h = r .head in
-    let a = actorAt (held r .actors) actor in
-    let k = categoryAt (held r .categories) category in
-    let number = loadNumber a k day in
-    let x : Loads = moreLoads (h .loads) number most in
-    let rows = set (r .loads) (h .loads .count) (inPlaces ps) in
-    let any = load-any r actor category day most ps Pass e in
-    let room = load-room h (r .columns) (r .loads) actor category day most ps (z .actors) (z .categories) (sym e) in
-    let s = z .loads in
-    record {
-      answer = Held (x .count);
-      register = loadsPut r x rows;
-      did = did-load (r .columns) ([], ([], ([], ([], tt)))) (h, (lent (r .loads), (lent actor, (lent category, (day, (most, (lent ps, tt))))))) (record { head = loadsPut r x rows .head; answer = Held (x .count) }) (h, (lent rows, (lent actor, (lent category, (day, (most, (lent ps, tt)))))))
-          (λ t cols.
-          does-passed (record { head = h; columns = cols; loads = r .loads }) _ (load actor category day most ps) (Held (x .count)) Pass (any cols) refl
-          (load-put (record { head = h; columns = cols; loads = r .loads }) actor category day most ps (inPlaces ps) a k number x refl refl refl refl refl)
-          (load-done h cols (r .loads) actor category day most ps (inPlaces ps) a k number x refl refl refl room (s .powers) refl
-          (λ rows row l. one-more (h .loads) x rows row number most (room .room) (s .keys) (s .approved) l refl refl refl) refl));
-      sized =
-          record {
-            actors = z .actors;
-            categories = z .categories;
-            loads =
-                record {
-                  keys = length-set (h .loads .keys) (h .loads .count) number ∙ s .keys;
-                  approved = length-set (h .loads .approved) (h .loads .count) most ∙ s .approved;
-                  powers = length-set (r .loads) (h .loads .count) (inPlaces ps) ∙ s .powers;
-                };
-            records = z .records;
-          };
-    }
+  loads-next : (n : ℕ) (ls : LoadColumns) (y : Answer) → LoadsSized ls →
+      ((cols : Columns) → seen (lent (withLoads (r .head) n) cols ls) y ≡ does (lent (r .head) cols (r .loads)) loading) → Next r loading
+  loads-next n ls y s e =
+      let x = r .loads in
+      record {
+        answer = y;
+        register = lent (withLoads (r .head) n) (r .columns) ls;
+        did = did-load (r .columns) ([], ([], ([], ([], ([], ([], tt))))))
+            (r .head, (ref (x .keys), (ref (x .approved), (ref (x .rows), (ref actor, (ref category, (day, (most, (ref ps, tt)))))))))
+            (record { head = withLoads (r .head) n; answer = y })
+            (r .head, (ref (ls .keys), (ref (ls .approved), (ref (ls .rows), (ref actor, (ref category, (day, (most, (ref ps, tt))))))))) (λ t. e);
+        sized = record { actors = z .actors; categories = z .categories; loads = s; records = z .records };
+      }
+
+  pub next-load : (v : Verdict) → v ≡ verdictOf (held r) loading → Next r loading
+  unfolding verdictOf view loadTests
+  next-load (No f) e =
+      loads-next (r .head .loads) (r .loads) (Refused f) (z .loads) (λ cols. does-refused (lent (r .head) cols (r .loads)) loading (No f) f e refl)
+  next-load Pass e =
+      let h = r .head in
+      let a = actorAt (held r .actors) actor in
+      let k = categoryAt (held r .categories) category in
+      let s = z .loads in
+      loads-next (h .loads + 1) (loadPut (r .loads) (h .loads) (loadNumber a k day) most (inPlaces ps)) (Held (h .loads + 1))
+      (record {
+        keys = length-set (r .loads .keys) (h .loads) _ ∙ s .keys;
+        approved = length-set (r .loads .approved) (h .loads) _ ∙ s .approved;
+        rows = length-set (r .loads .rows) (h .loads) _ ∙ s .rows;
+      })
+      (λ cols.
+      load-done h cols (r .loads) actor category day most ps (z .actors) (z .categories) (sym e) a k _ _ refl refl refl refl (s .keys) (s .approved) (s .rows))

@@ -12,9 +12,9 @@ use Rattle.ledger.specs.declared.Answer.{Answer}
 use Rattle.ledger.specs.declared.Engaged.{Engaged}
 use Rattle.ledger.specs.declared.Shown.{Shown}
 use Rattle.ledger.specs.declared.Listed.{Listed}
-use Rattle.tables.specs.Tables.{Columns}
-use Rattle.register.specs.View.{Register}
-use Rattle.register.specs.declared.Head.{Head}
+use Rattle.tables.specs.Tables.{Columns, LoadColumns}
+use Rattle.register.specs.View.{Register, lent}
+use Rattle.register.specs.declared.Fresh.{Fresh}
 use Rattle.register.proofs.Runs.{Begun, Ran, Engages, Shows, Lists, begun-is, ran-after, engages-is, shows-is, lists-is}
 
 -- DEMAND 2 OF THE CALLS: of a list of calls, their answers and the register after them
@@ -31,10 +31,10 @@ pub record Demand2 (cs : List Call) (ys : List Answer) (t : Register) : Type 1 w
       (y ≡ askHistory (after fresh cs) actor (length before)) × (later ≡ historyIn (after fresh cs) actor before)
 
 -- THE THEOREM, OF EVERY LIST OF CALLS FROM A FRESH REGISTER, whatever its lent columns hold
-pub demand2-of-calls : (head : Head) → Begun head → (cols : Columns) (ls : List (List ℕ)) (cs : List Call) (ys : List Answer) (t : Register) →
-    Ran (record { head = head; columns = cols; loads = ls }) cs ys t → Demand2 cs ys t
-demand2-of-calls head start cols ls cs ys t run =
-    let p = ran-after run fresh (begun-is start .1 cols ls) in
+pub demand2-of-calls : (start : Fresh) → Begun start → (cols : Columns) (ls : LoadColumns) (cs : List Call) (ys : List Answer) (t : Register) →
+    Ran (lent (start .head) cols ls) cs ys t → Demand2 cs ys t
+demand2-of-calls start fresh-one cols ls cs ys t run =
+    let p = ran-after run fresh (begun-is fresh-one .1 cols ls) in
     record {
       answered = p .1;
       engagement = λ actor category day s y q. engages-is q ∙ ap (λ l. askEngagement l actor category day s) (p .0);

@@ -23,9 +23,9 @@ use Rattle.ledger.proofs.Whole.{demand3}
 use Rattle.ledger.specs.declared.Answer.{Answer}
 use Rattle.ledger.specs.declared.Engaged.{Engaged}
 use Rattle.ledger.specs.declared.Engaged.the-variants.{Power, Refused}
-use Rattle.tables.specs.Tables.{Columns}
-use Rattle.register.specs.View.{Register, held}
-use Rattle.register.specs.declared.Head.{Head}
+use Rattle.tables.specs.Tables.{Columns, LoadColumns}
+use Rattle.register.specs.View.{Register, lent, held}
+use Rattle.register.specs.declared.Fresh.{Fresh}
 use Rattle.register.proofs.Runs.{Begun, Did, Ran, Engages, begun-is, did-step, ran-after, engages-is}
 
 -- DEMAND 3: of the calls, their answers and the register after them; h is the reading of calls and answers alone
@@ -86,9 +86,9 @@ of-holds cs ys t h e k =
     }
 
 -- THE THEOREM, OF EVERY LIST OF CALLS FROM A FRESH REGISTER, whatever its lent columns hold
-pub demand3-of-calls : (head : Head) → Begun head → (cols : Columns) (ls : List (List ℕ)) (cs : List Call)
-    (ys : List Answer) (t : Register) → Ran (record { head = head; columns = cols; loads = ls }) cs ys t → Demand3 cs ys t (events cs ys [])
-demand3-of-calls head start cols ls cs ys t run =
-    let p = ran-after run fresh (begun-is start .1 cols ls) in
+pub demand3-of-calls : (start : Fresh) → Begun start → (cols : Columns) (ls : LoadColumns) (cs : List Call)
+    (ys : List Answer) (t : Register) → Ran (lent (start .head) cols ls) cs ys t → Demand3 cs ys t (events cs ys [])
+demand3-of-calls start fresh-one cols ls cs ys t run =
+    let p = ran-after run fresh (begun-is fresh-one .1 cols ls) in
     of-holds cs ys t (events cs ys []) (p .1)
     (subst (λ l. Holds l (events cs ys [])) (sym (p .0)) (subst (λ zs. Holds (after fresh cs) (events cs zs [])) (sym (p .1)) (demand3 cs)))

@@ -9,7 +9,7 @@ use Rattle.refusals.specs.declared.Verdict.{Verdict}
 use Rattle.refusals.specs.declared.Verdict.the-variants.{Pass, No}
 use Rattle.ledger.specs.Call.{Call, enrolActor, enrolCategory, load, file, advance}
 use Rattle.ledger.specs.Ledger.{Ledger}
-use Rattle.ledger.specs.Calls.{verdictOf, fileNote, effect, refusedBy, step}
+use Rattle.ledger.specs.Calls.{verdictOf, fileAt, effect, refusedBy, step}
 use Rattle.ledger.specs.declared.Answer.the-variants.{Refused}
 use Rattle.register.specs.View.{Register, held}
 use Rattle.register.specs.Written.{Done, writes, leaves}
@@ -17,11 +17,11 @@ use Rattle.register.proofs.Runs.{Did, did-all}
 
 -- what an accepted call answers is no refusal
 no-refusal : {P : Type 0} (l : Ledger) (c : Call) (f : Refusal) → Refused f ≡ effect l c .answer → P
-unfolding effect fileNote
+unfolding effect fileAt
 no-refusal l (enrolActor code first last) f e = let z : _≡_ {A = ℕ} 0 1 = cc in absurd (omega arith)
 no-refusal l (enrolCategory text) f e = let z : _≡_ {A = ℕ} 0 1 = cc in absurd (omega arith)
 no-refusal l (load actor category day most ps) f e = let z : _≡_ {A = ℕ} 0 1 = cc in absurd (omega arith)
-no-refusal l (file submitter name body) f e = let z : _≡_ {A = ℕ} 0 1 = cc in absurd (omega arith)
+no-refusal l (file entry submitter form) f e = let z : _≡_ {A = ℕ} 0 1 = cc in absurd (omega arith)
 no-refusal l (advance day minute) f e = let z : _≡_ {A = ℕ} 0 1 = cc in absurd (omega arith)
 
 by-verdict : (r : Register) (c : Call) (f : Refusal) (v : Verdict) → Refused f ≡ decide v (effect (held r) c) (refusedBy (held r)) .answer →

@@ -1,4 +1,4 @@
--- From a filing's verdict to what the call does: a file that is not read, and one whose notification is judged by its places.
+-- From a notification's verdict to what filing it does, and from what a form is read as to what the call does.
 use mathlib.Core.Path.{_≡_, sym, _∙_, ap, ap₂}
 use mathlib.Core.List.{List}
 use Prim.Native.Nat.{ℕ}
@@ -9,42 +9,59 @@ use Rattle.refusals.specs.declared.Verdict.the-variants.{Pass, No}
 use Rattle.notification.specs.declared.Notification.{Notification}
 use Rattle.notification.specs.declared.Reading.{Reading}
 use Rattle.notification.specs.Reading.{readFile}
-use Rattle.ledger.specs.Call.{file}
-use Rattle.ledger.specs.Ledger.{Ledger, actorAt}
-use Rattle.ledger.specs.Filing.{keyOf, filingTests}
-use Rattle.ledger.specs.Calls.{verdictOf, fileNote, effect}
+use Rattle.ledger.specs.Call.{Form, csv, readForm, file}
+use Rattle.ledger.specs.Filing.{keyOf, filingTests, placeTests}
+use Rattle.ledger.specs.Calls.{verdictOf, refusedBy, stepNote, step}
+use Rattle.ledger.specs.declared.Answer.{Answer}
+use Rattle.ledger.specs.declared.Answer.the-variants.{Refused}
+use Rattle.ledger.specs.declared.Entry.{Entry}
+use Rattle.ledger.proofs.Steps.{step-file}
 use Rattle.register.specs.declared.verdicts.Places.{Places}
 use Rattle.register.specs.View.{Register, held}
-use Rattle.register.specs.Judging.{keyAt, Placed, placeTests, fileAt}
-use Rattle.register.specs.Written.{recordPut, writes}
-use Rattle.register.proofs.Filings.{filing-places}
+use Rattle.register.specs.Judging.{keyAt, Placed, filesAt}
+use Rattle.register.specs.Written.{Done, notePut, writes, leaves, does, doesNote, seen}
 
-module _ (l : Ledger) (u name body : List ℕ) (x : Reading) (e : x ≡ readFile name body) where
-  by-reading : decide (x .verdict) (firstMet (filingTests l u (x .notification))) No ≡ verdictOf l (file u name body)
-  unfolding verdictOf
-  by-reading = ap (λ (y : Reading). decide (y .verdict) (firstMet (filingTests l u (y .notification))) No) e
+-- ---- a notification, by its places
 
-  pub file-unread : (f : Refusal) → x .verdict ≡ No f → No f ≡ verdictOf l (file u name body)
-  file-unread f g = ap (λ (v : Verdict). decide v (firstMet (filingTests l u (x .notification))) No) (sym g) ∙ by-reading
+module _ (r : Register) (entry : Entry) (u : List ℕ) (n : Notification) (at : Places) (p : Placed (held r) u n at) where
+  note-verdict : firstMet (placeTests (held r) entry (keyAt at) (at .submitter) (n .powers)) ≡ firstMet (filingTests (held r) entry u n)
+  note-verdict = ap₂ (λ k by. firstMet (placeTests (held r) entry k by (n .powers))) (p .key) (p .by)
 
-  module _ (at : Places) (p : Placed l u (x .notification) at) where
-    pub file-verdict : x .verdict ≡ Pass →
-        firstMet (placeTests l (keyAt at) (at .submitter) (x .notification .powers)) ≡ verdictOf l (file u name body)
-    file-verdict g =
-        ap firstMet
-        (ap₂ (λ k by. placeTests l k by (x .notification .powers)) (p .key) (p .by) ∙ sym (filing-places l u (x .notification)))
-        ∙ ap (λ (v : Verdict). decide v (firstMet (filingTests l u (x .notification))) No) (sym g)
-        ∙ by-reading
+  module _ (v : Verdict) (e : v ≡ firstMet (placeTests (held r) entry (keyAt at) (at .submitter) (n .powers))) where
+    pub note-refused : (f : Refusal) → v ≡ No f → seen r (Refused f) ≡ doesNote r entry u n
+    unfolding stepNote
+    note-refused f g = let k : firstMet (filingTests (held r) entry u n) ≡ No f = sym note-verdict ∙ sym e ∙ g in rw k
 
-    pub file-effect : fileAt l (keyAt at) (at .submitter) (x .notification .powers) ≡ effect l (file u name body)
-    unfolding effect fileNote fileAt
-    file-effect =
-        ap₂ (λ k by. fileAt l k by (x .notification .powers)) (p .key) (p .by)
-        ∙ ap (λ (y : Reading). fileNote l u (y .notification)) e
+    pub note-passed : v ≡ Pass → (d : Done) → d ≡ filesAt r (keyAt at) (at .submitter) (n .powers) → d ≡ doesNote r entry u n
+    unfolding stepNote
+    note-passed g d w =
+        let k : firstMet (filingTests (held r) entry u n) ≡ Pass = sym note-verdict ∙ sym e ∙ g in
+        rw k (w ∙ ap₂ (λ k by. filesAt r k by (n .powers)) (p .key) (p .by))
 
-pub file-put : (r : Register) (u name body : List ℕ) (x : Reading) → x ≡ readFile name body → (at : Places) → Placed (held r) u (x .notification) at →
-    recordPut r (at .submitter) (keyAt at) (x .notification .powers) ≡ writes r (file u name body)
-unfolding writes
-file-put r u name body x e at p =
-    ap₂ (λ k by. recordPut r by k (x .notification .powers)) (p .key) (p .by)
-    ∙ ap (λ (y : Reading). recordPut r (actorAt (held r .actors) u) (keyOf (held r) (y .notification)) (y .notification .powers)) e
+-- ---- a form
+
+pub file-read : (u name body : List ℕ) (x : Reading) → x ≡ readFile name body → x ≡ readForm u (csv name body)
+unfolding readForm
+file-read u name body x e = e
+
+-- where the form is read, the call does what filing its notification does; where it isn't, nothing
+module _ (r : Register) (entry : Entry) (u : List ℕ) (form : Form) where
+  read-register : (v : Verdict) → readForm u form .verdict ≡ v →
+      decide v (doesNote r entry u (readForm u form .notification) .register) (λ f. r) ≡ leaves r (file entry u form)
+  unfolding leaves verdictOf writes
+  read-register Pass e = rw e
+  read-register (No f) e = rw e
+
+  module _ (x : Reading) (e : x ≡ readForm u form) where
+    pub form-unread : (f : Refusal) → x .verdict ≡ No f → seen r (Refused f) ≡ does r (file entry u form)
+    form-unread f g =
+        let k : readForm u form .verdict ≡ No f = ap (λ (y : Reading). y .verdict) (sym e) ∙ g in
+        ap₂ (λ s o. record { register = s; outcome = o }) (read-register (No f) k)
+        (sym (step-file (held r) entry u form ∙ ap (λ v. decide v (stepNote (held r) entry u (readForm u form .notification)) (refusedBy (held r))) k))
+
+    pub form-read : x .verdict ≡ Pass → (d : Done) → d ≡ doesNote r entry u (x .notification) → d ≡ does r (file entry u form)
+    form-read g d w =
+        let k : readForm u form .verdict ≡ Pass = ap (λ (y : Reading). y .verdict) (sym e) ∙ g in
+        w ∙ ap (λ (y : Reading). doesNote r entry u (y .notification)) e
+        ∙ ap₂ (λ s o. record { register = s; outcome = o }) (read-register Pass k)
+        (sym (step-file (held r) entry u form ∙ ap (λ v. decide v (stepNote (held r) entry u (readForm u form .notification)) (refusedBy (held r))) k))

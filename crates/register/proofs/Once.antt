@@ -17,9 +17,9 @@ use Rattle.ledger.specs.Once.{rising}
 use Rattle.ledger.proofs.Once.{each-once}
 use Rattle.ledger.specs.declared.Answer.{Answer}
 use Rattle.ledger.specs.declared.Listed.the-variants.{Count, Refused}
-use Rattle.tables.specs.Tables.{Columns}
-use Rattle.register.specs.declared.Head.{Head}
-use Rattle.register.specs.View.{Register, held}
+use Rattle.tables.specs.Tables.{Columns, LoadColumns}
+use Rattle.register.specs.declared.Fresh.{Fresh}
+use Rattle.register.specs.View.{Register, lent, held}
 use Rattle.register.proofs.Runs.{Begun, Ran, Lists, begun-is, ran-after, lists-is}
 
 -- an accepted call leaves the history at the beginning of the buffer
@@ -36,12 +36,12 @@ unfolding askHistory historyIn
 listed l actor before later n e f = by-verdict (firstMet (historyTests l actor (length before))) (historyOf l actor) before later n e f
 
 -- THE THEOREM, OF EVERY LIST OF CALLS FROM A FRESH REGISTER, whatever its lent columns hold
-pub each-once-of-calls : (head : Head) → Begun head → (cols : Columns) (ls : List (List ℕ)) (cs : List Call)
-    (ys : List Answer) (t : Register) → Ran (record { head = head; columns = cols; loads = ls }) cs ys t →
+pub each-once-of-calls : (start : Fresh) → Begun start → (cols : Columns) (ls : LoadColumns) (cs : List Call)
+    (ys : List Answer) (t : Register) → Ran (lent (start .head) cols ls) cs ys t →
     (actor before later : List ℕ) (n : ℕ) → Lists t actor before (Count n) later →
     rising 0 (take n later) (length (held t .records)) ≡ true
-each-once-of-calls head start cols ls cs ys t run actor before later n q =
-    let p = ran-after run fresh (begun-is start .1 cols ls) in
+each-once-of-calls start fresh-one cols ls cs ys t run actor before later n q =
+    let p = ran-after run fresh (begun-is fresh-one .1 cols ls) in
     let e = lists-is q in
     let ids = listed (held t) actor before later n (e .0) (e .1) in
     ap (λ is. rising 0 is (length (held t .records))) ids

@@ -18,13 +18,13 @@ use Rattle.notification.proofs.Notification as notification
 use Rattle.ledger.specs.Ledger.{Key, actorAt, categoryAt}
 use Rattle.ledger.specs.Filing.{keyOf, inContract, nobody}
 use Rattle.ledger.specs.declared.Actor.{Actor}
-use Rattle.tables.specs.Tables.{Columns, actorsIn, categoriesIn}
+use Rattle.tables.specs.Tables.{Columns, LoadColumns, actorsIn, categoriesIn}
 use Rattle.tables.specs.declared.actors.Actors.{Actors}
 use Rattle.tables.specs.declared.categories.Categories.{Categories}
 use Rattle.tables.proofs.Entries.{actors-length, categories-length}
 use Rattle.register.specs.declared.Head.{Head}
 use Rattle.register.specs.View.{view}
-use Rattle.register.specs.Judging.{Placed, partyTests}
+use Rattle.register.specs.Judging.{Placed}
 use Rattle.register.proofs.Head as head
 
 -- ---- how many are enrolled
@@ -63,37 +63,22 @@ abbrev pub blank : Actor
 blank = record { code = []; first = 0; last = 0 }
 
 -- the contract of the actor at a place is that of the entry there
-pub contract-test : (h : Head) (cols : Columns) (loads : List (List ℕ)) (i d : ℕ) → i < length (actorsIn (h .actors)) → length (h .actors .entries) ≡ 8 →
-    (r t : Bool) → r ≡ (leb (getD (h .actors .entries) i blank .first) d && leb d (getD (h .actors .entries) i blank .last)) → not r ≡ t →
-    not (inContract (view h cols loads) i d) ≡ t
+pub contract-is : (h : Head) (cols : Columns) (loads : LoadColumns) (i d : ℕ) → i < length (actorsIn (h .actors)) → length (h .actors .entries) ≡ 8 →
+    (r : Bool) → r ≡ (leb (getD (h .actors .entries) i blank .first) d && leb d (getD (h .actors .entries) i blank .last)) →
+    r ≡ inContract (view h cols loads) i d
 unfolding view
-contract-test h cols loads i d k e r t er et =
+contract-is h cols loads i d k e r er =
     let m = actors-many (h .actors) e in
     let f : getD (actorsIn (h .actors)) i nobody ≡ getD (h .actors .entries) i blank =
     actor-entry (h .actors) i nobody k e ∙ default-any (h .actors .entries) i nobody blank (omega arith) in
-    rw (f, ← er) et
-
--- ---- 20 to 25
-
-module _ (h : Head) (cols : Columns) (loads : List (List ℕ)) (k : Key) (by n m : ℕ)
-    (en : length (actorsIn (h .actors)) ≡ n) (em : length (categoriesIn (h .categories)) ≡ m) where
-  -- the tests, by these numbers
-  pub party-tests : firstMet (partyTests (view h cols loads) k by)
-      ≡ cond (not (ltb (k .ceder) n)) (No (state CederUnknown))
-      (cond (not (ltb (k .acquirer) n)) (No (state AcquirerUnknown))
-      (cond (not (ltb by n)) (No (state ActorUnknown))
-      (cond (not (ltb (k .category) m)) (No (state CategoryUnknown))
-      (cond (not (eqb by (k .ceder) || eqb by (k .acquirer))) (No (state NotParty))
-      (cond (eqb (k .ceder) (k .acquirer)) (No (state OneActor)) Pass)))))
-  unfolding partyTests view
-  party-tests = rw (en, em)
+    rw f er
 
 -- ---- the places
 
 pub acquirer-length : (n : Notification) (vs : List Val) → Is notification.the-row n vs → length (n .key .acquirer) ≡ 16
 acquirer-length n vs p = sym (length-map (n .key .acquirer) (λ v. v)) ∙ p .1 .1 .0 .1 .1 .1 .0 .1 .0 .1
 
-pub placed : (h : Head) (cols : Columns) (loads : List (List ℕ)) (submitter : List ℕ) (n : Notification) (c a by z : ℕ) →
+pub placed : (h : Head) (cols : Columns) (loads : LoadColumns) (submitter : List ℕ) (n : Notification) (c a by z : ℕ) →
     c ≡ actorAt (actorsIn (h .actors)) (n .key .ceder) → a ≡ actorAt (actorsIn (h .actors)) (n .key .acquirer) →
     by ≡ actorAt (actorsIn (h .actors)) submitter → z ≡ categoryAt (categoriesIn (h .categories)) (categoryText (n .key .category)) →
     Placed (view h cols loads) submitter n (record { ceder = c; acquirer = a; submitter = by; category = z; day = n .key .day })

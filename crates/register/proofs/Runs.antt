@@ -10,24 +10,26 @@ use mathlib.Core.List.{List, [], _∷_}
 use Prim.Native.Nat.{ℕ}
 use lib.ListN.{length}
 use Rattle.ledger.specs.Ledger.{Ledger, fresh}
-use Rattle.ledger.specs.Call.{Call, enrolActor, enrolCategory, load, file, advance}
+use Rattle.ledger.specs.Call.{csv, Call, enrolActor, enrolCategory, load, file, advance}
 use Rattle.ledger.specs.Calls.{step}
 use Rattle.ledger.specs.Asking.{askEngagement, askRecord, askHistory, historyIn}
 use Rattle.ledger.specs.Whole.{after, answersTo}
 use Rattle.ledger.specs.declared.Answer.{Answer}
 use Rattle.ledger.specs.declared.Engaged.{Engaged}
+use Rattle.ledger.specs.declared.Entry.the-variants.{SevenDays}
 use Rattle.ledger.specs.declared.Shown.{Shown}
 use Rattle.ledger.specs.declared.Listed.{Listed}
-use Rattle.tables.specs.Tables.{Columns}
-use Rattle.register.specs.View.{Register, view, held}
-use Rattle.register.specs.Written.{freshHead, Done, does, seen}
-use Rattle.register.specs.declared.Head.{Head}
+use Rattle.tables.specs.Tables.{Columns, LoadColumns, columns, loadColumns}
+use Rattle.register.specs.View.{Register, lent, view, held}
+use Rattle.register.specs.Written.{freshRegister, Done, does, seen}
+use Rattle.register.specs.declared.Fresh.{Fresh}
 use Rattle.register.specs.declared.Reply.{Reply}
 use Rattle.register.proofs.Head.fresh.Reads as fresh-reads
 use Rattle.register.proofs.Head.enrol_actor.Reads as actor-reads
 use Rattle.register.proofs.Head.enrol_category.Reads as category-reads
 use Rattle.register.proofs.Head.load.Reads as load-reads
 use Rattle.register.proofs.Head.file.Reads as file-reads
+use Rattle.register.proofs.Head.file_note.Reads as note-reads
 use Rattle.register.proofs.Head.advance.Reads as advance-reads
 use Rattle.register.proofs.Head.engagement.Reads as engagement-reads
 use Rattle.register.proofs.Head.record.Reads as record-reads
@@ -36,6 +38,7 @@ use Rattle.register.proofs.Head.enrol_actor as actor-fn
 use Rattle.register.proofs.Head.enrol_category as category-fn
 use Rattle.register.proofs.Head.load as load-fn
 use Rattle.register.proofs.Head.file as file-fn
+use Rattle.register.proofs.Head.file_note as note-fn
 use Rattle.register.proofs.Head.advance as advance-fn
 use Rattle.register.proofs.Head.engagement as engagement-fn
 use Rattle.register.proofs.Head.record as record-fn
@@ -51,35 +54,36 @@ use Rattle.register.proofs.Head.history.Kinds as history-kinds
 
 -- ---- the calls of demand 3's list
 
--- A FRESH HEAD: what `fresh` ensures
-pub data Begun : Head → Type 1 where
-  begun : (head : Head) → (fresh-reads.Asked tt tt → fresh-reads.Post tt tt head tt) → Begun head
+-- A FRESH REGISTER: what `fresh` ensures
+pub data Begun : Fresh → Type 1 where
+  begun : (start : Fresh) → (fresh-reads.Asked tt tt → fresh-reads.Post tt tt start tt) → Begun start
 
 -- A CALL, ITS ANSWER AND THE REGISTER THAT IT LEAVES: what the called function ensures of what it was handed. Arguments are
 -- read at entry, what it may write at exit; nobody else writes to the register meanwhile.
 pub data Did : Register → Call → Answer → Register → Type 1 where
-  did-actor : (cols : Columns) (ls : List (List ℕ)) (κs : Lifetimes.Lfts 1) (a : World.ArgsD actor-fn.signature κs) (y : Reply)
+  did-actor : (cols : Columns) (ls : LoadColumns) (κs : Lifetimes.Lfts 1) (a : World.ArgsD actor-fn.signature κs) (y : Reply)
       (s : Clauses.AtExit (Kinds.endedOf 1 actor-kinds.ps actor-kinds.r) κs) → (actor-reads.Asked κs a → actor-reads.Post κs a y s) →
-      Did (record { head = a .0; columns = cols; loads = ls }) (enrolActor (now (a .1 .0)) (a .1 .1 .0) (a .1 .1 .1 .0)) (y .answer)
-      (record { head = y .head; columns = cols; loads = ls })
-  did-category : (cols : Columns) (ls : List (List ℕ)) (κs : Lifetimes.Lfts 1) (a : World.ArgsD category-fn.signature κs) (y : Reply)
+      Did (lent (a .0) cols ls) (enrolActor (now (a .1 .0)) (a .1 .1 .0) (a .1 .1 .1 .0)) (y .answer) (lent (y .head) cols ls)
+  did-category : (cols : Columns) (ls : LoadColumns) (κs : Lifetimes.Lfts 1) (a : World.ArgsD category-fn.signature κs) (y : Reply)
       (s : Clauses.AtExit (Kinds.endedOf 1 category-kinds.ps category-kinds.r) κs) → (category-reads.Asked κs a → category-reads.Post κs a y s) →
-      Did (record { head = a .0; columns = cols; loads = ls }) (enrolCategory (now (a .1 .0))) (y .answer)
-      (record { head = y .head; columns = cols; loads = ls })
-  did-load : (cols : Columns) (κs : Lifetimes.Lfts 4) (a : World.ArgsD load-fn.signature κs) (y : Reply)
-      (s : Clauses.AtExit (Kinds.endedOf 4 load-kinds.ps load-kinds.r) κs) → (load-reads.Asked κs a → load-reads.Post κs a y s) →
-      Did (record { head = a .0; columns = cols; loads = now (a .1 .0) })
-      (load (now (a .1 .1 .0)) (now (a .1 .1 .1 .0)) (a .1 .1 .1 .1 .0) (a .1 .1 .1 .1 .1 .0) (now (a .1 .1 .1 .1 .1 .1 .0))) (y .answer)
-      (record { head = y .head; columns = cols; loads = now (s .1 .0) })
-  did-file : (κs : Lifetimes.Lfts 7) (a : World.ArgsD file-fn.signature κs) (y : Reply)
-      (s : Clauses.AtExit (Kinds.endedOf 7 file-kinds.ps file-kinds.r) κs) → (file-reads.Asked κs a → file-reads.Post κs a y s) →
-      Did (record { head = a .0; columns = record { keys = now (a .1 .0); marks = now (a .1 .1 .0); rows = now (a .1 .1 .1 .0) }; loads = now (a .1 .1 .1 .1 .0) })
-      (file (now (a .1 .1 .1 .1 .1 .0)) (now (a .1 .1 .1 .1 .1 .1 .0)) (now (a .1 .1 .1 .1 .1 .1 .1 .0))) (y .answer)
-      (record { head = y .head; columns = record { keys = now (s .1 .0); marks = now (s .1 .1 .0); rows = now (s .1 .1 .1 .0) }; loads = now (a .1 .1 .1 .1 .0) })
-  did-advance : (cols : Columns) (ls : List (List ℕ)) (a : World.ArgsD advance-fn.signature tt) (y : Reply)
+      Did (lent (a .0) cols ls) (enrolCategory (now (a .1 .0))) (y .answer) (lent (y .head) cols ls)
+  did-load : (cols : Columns) (κs : Lifetimes.Lfts 6) (a : World.ArgsD load-fn.signature κs) (y : Reply)
+      (s : Clauses.AtExit (Kinds.endedOf 6 load-kinds.ps load-kinds.r) κs) → (load-reads.Asked κs a → load-reads.Post κs a y s) →
+      Did (lent (a .0) cols (loadColumns (now (a .1 .0)) (now (a .1 .1 .0)) (now (a .1 .1 .1 .0))))
+      (load (now (a .1 .1 .1 .1 .0)) (now (a .1 .1 .1 .1 .1 .0)) (a .1 .1 .1 .1 .1 .1 .0) (a .1 .1 .1 .1 .1 .1 .1 .0) (now (a .1 .1 .1 .1 .1 .1 .1 .1 .0)))
+      (y .answer)
+      (lent (y .head) cols (loadColumns (now (s .1 .0)) (now (s .1 .1 .0)) (now (s .1 .1 .1 .0))))
+  did-file : (κs : Lifetimes.Lfts 11) (a : World.ArgsD file-fn.signature κs) (y : Reply)
+      (s : Clauses.AtExit (Kinds.endedOf 11 file-kinds.ps file-kinds.r) κs) → (file-reads.Asked κs a → file-reads.Post κs a y s) →
+      Did
+      (lent (a .0) (columns (now (a .1 .0)) (now (a .1 .1 .0)) (now (a .1 .1 .1 .0)) (now (a .1 .1 .1 .1 .0)) (now (a .1 .1 .1 .1 .1 .0)))
+      (loadColumns (now (a .1 .1 .1 .1 .1 .1 .0)) (now (a .1 .1 .1 .1 .1 .1 .1 .0)) (now (a .1 .1 .1 .1 .1 .1 .1 .1 .0))))
+      (file SevenDays (now (a .1 .1 .1 .1 .1 .1 .1 .1 .1 .0)) (csv (now (a .1 .1 .1 .1 .1 .1 .1 .1 .1 .1 .0)) (now (a .1 .1 .1 .1 .1 .1 .1 .1 .1 .1 .1 .0)))) (y .answer)
+      (lent (y .head) (columns (now (s .1 .0)) (now (s .1 .1 .0)) (now (s .1 .1 .1 .0)) (now (s .1 .1 .1 .1 .0)) (now (s .1 .1 .1 .1 .1 .0)))
+      (loadColumns (now (a .1 .1 .1 .1 .1 .1 .0)) (now (a .1 .1 .1 .1 .1 .1 .1 .0)) (now (a .1 .1 .1 .1 .1 .1 .1 .1 .0))))
+  did-advance : (cols : Columns) (ls : LoadColumns) (a : World.ArgsD advance-fn.signature tt) (y : Reply)
       (s : Clauses.AtExit (Kinds.endedOf 0 advance-kinds.ps advance-kinds.r) tt) → (advance-reads.Asked tt a → advance-reads.Post tt a y s) →
-      Did (record { head = a .0; columns = cols; loads = ls }) (advance (a .1 .0) (a .1 .1 .0)) (y .answer)
-      (record { head = y .head; columns = cols; loads = ls })
+      Did (lent (a .0) cols ls) (advance (a .1 .0) (a .1 .1 .0)) (y .answer) (lent (y .head) cols ls)
 
 -- a list of calls, each given the register as the one before left it
 pub data Ran : Register → List Call → List Answer → Register → Type 1 where
@@ -88,26 +92,30 @@ pub data Ran : Register → List Call → List Answer → Register → Type 1 wh
 
 -- ---- the calls that only ask
 
--- what the engagement call answers of a register
+-- what the engagement call answers of a register; ids and approved powers are not lent to it
 pub data Engages : Register → List ℕ → List ℕ → ℕ → ℕ → Engaged → Type 1 where
-  engages : (κs : Lifetimes.Lfts 6) (a : World.ArgsD engagement-fn.signature κs) (y : Engaged)
-      (s : Clauses.AtExit (Kinds.endedOf 6 engagement-kinds.ps engagement-kinds.r) κs) → (engagement-reads.Asked κs a → engagement-reads.Post κs a y s) →
-      Engages (record { head = a .0; columns = record { keys = now (a .1 .0); marks = now (a .1 .1 .0); rows = now (a .1 .1 .1 .0) }; loads = now (a .1 .1 .1 .1 .0) })
-      (now (a .1 .1 .1 .1 .1 .0)) (now (a .1 .1 .1 .1 .1 .1 .0)) (a .1 .1 .1 .1 .1 .1 .1 .0) (a .1 .1 .1 .1 .1 .1 .1 .1 .0) y
+  engages : (ids approved : List ℕ) (κs : Lifetimes.Lfts 8) (a : World.ArgsD engagement-fn.signature κs) (y : Engaged)
+      (s : Clauses.AtExit (Kinds.endedOf 8 engagement-kinds.ps engagement-kinds.r) κs) → (engagement-reads.Asked κs a → engagement-reads.Post κs a y s) →
+      Engages
+      (lent (a .0) (columns (now (a .1 .0)) ids (now (a .1 .1 .0)) (now (a .1 .1 .1 .0)) (now (a .1 .1 .1 .1 .0)))
+      (loadColumns (now (a .1 .1 .1 .1 .1 .0)) approved (now (a .1 .1 .1 .1 .1 .1 .0))))
+      (now (a .1 .1 .1 .1 .1 .1 .1 .0)) (now (a .1 .1 .1 .1 .1 .1 .1 .1 .0)) (a .1 .1 .1 .1 .1 .1 .1 .1 .1 .0) (a .1 .1 .1 .1 .1 .1 .1 .1 .1 .1 .0) y
 
--- what the record call answers of a register; the loads' rows are not lent to it
+-- what the record call answers of a register; the loads are not lent to it
 pub data Shows : Register → List ℕ → ℕ → Shown → Type 1 where
-  shows : (ls : List (List ℕ)) (κs : Lifetimes.Lfts 4) (a : World.ArgsD record-fn.signature κs) (y : Shown)
-      (s : Clauses.AtExit (Kinds.endedOf 4 record-kinds.ps record-kinds.r) κs) → (record-reads.Asked κs a → record-reads.Post κs a y s) →
-      Shows (record { head = a .0; columns = record { keys = now (a .1 .0); marks = now (a .1 .1 .0); rows = now (a .1 .1 .1 .0) }; loads = ls })
-      (now (a .1 .1 .1 .1 .0)) (a .1 .1 .1 .1 .1 .0) y
+  shows : (ls : LoadColumns) (κs : Lifetimes.Lfts 6) (a : World.ArgsD record-fn.signature κs) (y : Shown)
+      (s : Clauses.AtExit (Kinds.endedOf 6 record-kinds.ps record-kinds.r) κs) → (record-reads.Asked κs a → record-reads.Post κs a y s) →
+      Shows
+      (lent (a .0) (columns (now (a .1 .0)) (now (a .1 .1 .0)) (now (a .1 .1 .1 .0)) (now (a .1 .1 .1 .1 .0)) (now (a .1 .1 .1 .1 .1 .0))) ls)
+      (now (a .1 .1 .1 .1 .1 .1 .0)) (a .1 .1 .1 .1 .1 .1 .1 .0) y
 
--- what the history call answers of a register, and the lent buffer before and after it; only the keys are lent to it
+-- what the history call answers of a register, and the lent buffer before and after it; only ids and keys are lent to it
 pub data Lists : Register → List ℕ → List ℕ → Listed → List ℕ → Type 1 where
-  lists : (marks rows ls : List (List ℕ)) (κs : Lifetimes.Lfts 3) (a : World.ArgsD history-fn.signature κs) (y : Listed)
-      (s : Clauses.AtExit (Kinds.endedOf 3 history-kinds.ps history-kinds.r) κs) → (history-reads.Asked κs a → history-reads.Post κs a y s) →
-      Lists (record { head = a .0; columns = record { keys = now (a .1 .0); marks = marks; rows = rows }; loads = ls })
-      (now (a .1 .1 .0)) (now (a .1 .1 .1 .0)) y (now (s .1 .1 .1 .0))
+  lists : (statuses : List ℕ) (marks rows : List (List ℕ)) (ls : LoadColumns) (κs : Lifetimes.Lfts 4) (a : World.ArgsD history-fn.signature κs)
+      (y : Listed) (s : Clauses.AtExit (Kinds.endedOf 4 history-kinds.ps history-kinds.r) κs) →
+      (history-reads.Asked κs a → history-reads.Post κs a y s) →
+      Lists (lent (a .0) (columns statuses (now (a .1 .0)) (now (a .1 .1 .0)) marks rows) ls)
+      (now (a .1 .1 .1 .0)) (now (a .1 .1 .1 .1 .0)) y (now (s .1 .1 .1 .1 .0))
 
 -- ---- no open function asks anything of its caller
 
@@ -116,12 +124,13 @@ pub record AsksNothing : Type 1 where
   pub fresh : fresh-reads.Asked tt tt
   pub enrol-actor : (κs : Lifetimes.Lfts 1) (a : World.ArgsD actor-fn.signature κs) → actor-reads.Asked κs a
   pub enrol-category : (κs : Lifetimes.Lfts 1) (a : World.ArgsD category-fn.signature κs) → category-reads.Asked κs a
-  pub load : (κs : Lifetimes.Lfts 4) (a : World.ArgsD load-fn.signature κs) → load-reads.Asked κs a
-  pub file : (κs : Lifetimes.Lfts 7) (a : World.ArgsD file-fn.signature κs) → file-reads.Asked κs a
+  pub load : (κs : Lifetimes.Lfts 6) (a : World.ArgsD load-fn.signature κs) → load-reads.Asked κs a
+  pub file : (κs : Lifetimes.Lfts 11) (a : World.ArgsD file-fn.signature κs) → file-reads.Asked κs a
+  pub file-note : (κs : Lifetimes.Lfts 9) (a : World.ArgsD note-fn.signature κs) → note-reads.Asked κs a
   pub advance : (a : World.ArgsD advance-fn.signature tt) → advance-reads.Asked tt a
-  pub engagement : (κs : Lifetimes.Lfts 6) (a : World.ArgsD engagement-fn.signature κs) → engagement-reads.Asked κs a
-  pub record-of : (κs : Lifetimes.Lfts 4) (a : World.ArgsD record-fn.signature κs) → record-reads.Asked κs a
-  pub history : (κs : Lifetimes.Lfts 3) (a : World.ArgsD history-fn.signature κs) → history-reads.Asked κs a
+  pub engagement : (κs : Lifetimes.Lfts 8) (a : World.ArgsD engagement-fn.signature κs) → engagement-reads.Asked κs a
+  pub record-of : (κs : Lifetimes.Lfts 6) (a : World.ArgsD record-fn.signature κs) → record-reads.Asked κs a
+  pub history : (κs : Lifetimes.Lfts 4) (a : World.ArgsD history-fn.signature κs) → history-reads.Asked κs a
 
 pub asks-nothing : AsksNothing
 asks-nothing =
@@ -131,6 +140,7 @@ asks-nothing =
       enrol-category = λ κs a. tt;
       load = λ κs a. tt;
       file = λ κs a. tt;
+      file-note = λ κs a. tt;
       advance = λ a. tt;
       engagement = λ κs a. tt;
       record-of = λ κs a. tt;
@@ -139,8 +149,8 @@ asks-nothing =
 
 -- ---- so what each ensures is known: the ledger's steps and answers
 
-pub begun-is : {head : Head} → Begun head → (head ≡ freshHead) × ((cols : Columns) (ls : List (List ℕ)) → view head cols ls ≡ fresh)
-begun-is (begun head e) = e (asks-nothing .fresh)
+pub begun-is : {start : Fresh} → Begun start → (start ≡ freshRegister) × ((cols : Columns) (ls : LoadColumns) → view (start .head) cols ls ≡ fresh)
+begun-is (begun start e) = e (asks-nothing .fresh)
 
 -- the register that a call leaves, byte by byte, the ledger that this holds, and the answer
 pub did-all : {r s : Register} {c : Call} {y : Answer} → Did r c y s → seen s y ≡ does r c
@@ -161,11 +171,11 @@ ran-after (more {c = c} q k) l e =
     (rest .0, ap₂ _∷_ (p .1 ∙ ap (λ l. step l c .answer) e) (rest .1))
 
 pub engages-is : {r : Register} {a z : List ℕ} {d s : ℕ} {y : Engaged} → Engages r a z d s y → y ≡ askEngagement (held r) a z d s
-engages-is (engages κs a y s e) = e (asks-nothing .engagement κs a)
+engages-is (engages ids approved κs a y s e) = e (asks-nothing .engagement κs a) ids approved
 
 pub shows-is : {r : Register} {asker : List ℕ} {id : ℕ} {y : Shown} → Shows r asker id y → y ≡ askRecord (held r) asker id
 shows-is (shows ls κs a y s e) = e (asks-nothing .record-of κs a) ls
 
 pub lists-is : {r : Register} {actor before later : List ℕ} {y : Listed} → Lists r actor before y later →
     (y ≡ askHistory (held r) actor (length before)) × (later ≡ historyIn (held r) actor before)
-lists-is (lists marks rows ls κs a y s e) = e (asks-nothing .history κs a) marks rows ls
+lists-is (lists statuses marks rows ls κs a y s e) = e (asks-nothing .history κs a) statuses marks rows ls

@@ -5,17 +5,18 @@ use mathlib.Core.Path.{_≡_, refl}
 use mathlib.Core.List.{List, [], _∷_}
 use Prim.Native.Nat.{ℕ, _<_}
 use lib.ListN.{length, getD}
-use Rattle.ledger.specs.Call.{Call, enrolActor, enrolCategory, load, file, advance}
+use Rattle.ledger.specs.Call.{csv, Call, enrolActor, enrolCategory, load, file, advance}
 use Rattle.ledger.specs.declared.Answer.{Answer}
 use Rattle.ledger.specs.declared.Engaged.{Engaged}
+use Rattle.ledger.specs.declared.Entry.the-variants.{SevenDays}
 use Rattle.ledger.specs.declared.Shown.{Shown}
 use Rattle.ledger.specs.declared.Listed.{Listed}
-use Rattle.tables.specs.Tables.{Columns, actorsIn, categoriesIn, loadsIn, recordsIn}
-use Rattle.register.specs.View.{Register, view}
-use Rattle.register.specs.Written.{freshHead}
-use Rattle.register.specs.declared.Head.{Head}
+use Rattle.tables.specs.Tables.{Columns, LoadColumns, actorsIn, categoriesIn, loadsIn, recordsIn}
+use Rattle.register.specs.View.{Register, lent, view}
+use Rattle.register.specs.Written.{freshHead, freshRegister}
+use Rattle.register.specs.declared.Fresh.{Fresh}
 use Rattle.register.proofs.Runs.{Begun, begun, Ran, none, more, Engages, Shows, Lists}
-use Rattle.register.proofs.Sized.{Sized, Next}
+use Rattle.register.proofs.Sized.{LoadsSized, RecordsSized, Sized, Next}
 use Rattle.register.proofs.CallsExist.{next-advance, next-actor, next-category, next-load}
 use Rattle.register.proofs.FilingsExist.{next-file}
 use Rattle.register.proofs.AsksExist.{engagement-exists, record-exists, history-exists}
@@ -26,7 +27,7 @@ pub next : (r : Register) → Sized r → (c : Call) → Next r c
 next r z (enrolActor code first last) = next-actor r code first last z _ refl
 next r z (enrolCategory text) = next-category r text z _ refl
 next r z (load actor category day most ps) = next-load r actor category day most ps z _ refl
-next r z (file submitter name body) = next-file r submitter name body z _ refl
+next r z (file SevenDays submitter (csv name body)) = next-file r submitter name body z
 next r z (advance day minute) = next-advance r day minute z _ refl
 
 -- the answers of a list of calls, and the register that it leaves
@@ -44,42 +45,28 @@ run (c ∷ cs) r z =
 
 -- ---- a fresh register
 
--- what the caller lends has the places that its types say
-pub record Lent (cols : Columns) (ls : List (List ℕ)) : Type 0 where
-  pub keys : length (cols .keys) ≡ 256
-  pub marks : length (cols .marks) ≡ 256
-  pub rows : length (cols .rows) ≡ 256
-  pub marked : (i : ℕ) → i < 256 → length (getD (cols .marks) i []) ≡ 4
-  pub loads : length ls ≡ 64
+pub fresh-sized : (cols : Columns) (ls : LoadColumns) → RecordsSized cols → LoadsSized ls → Sized (lent freshHead cols ls)
+fresh-sized cols ls c l = record { actors = refl; categories = refl; loads = l; records = c }
 
-pub fresh-sized : (cols : Columns) (ls : List (List ℕ)) → Lent cols ls → Sized (record { head = freshHead; columns = cols; loads = ls })
-fresh-sized cols ls l =
-    record {
-      actors = refl;
-      categories = refl;
-      loads = record { keys = refl; approved = refl; powers = l .loads };
-      records = record { statuses = refl; ids = refl; keys = l .keys; marks = l .marks; rows = l .rows; marked = l .marked };
-    }
-
-pub fresh-begun : Begun freshHead
+pub fresh-begun : Begun freshRegister
 unfolding view actorsIn categoriesIn loadsIn recordsIn
-fresh-begun = begun freshHead (λ t. (refl, λ cols ls. refl))
+fresh-begun = begun freshRegister (λ t. (refl, λ cols ls. refl))
 
--- WHATEVER THE CALLS, THERE ARE A FRESH HEAD AND A RUN OF THEM FROM IT, and each call that only asks has an answer after them
-pub record Exists (cols : Columns) (ls : List (List ℕ)) (cs : List Call) : Type 1 where
-  pub head : Head
-  pub start : Begun head
-  pub run : Run (record { head = head; columns = cols; loads = ls }) cs
+-- WHATEVER THE CALLS, THERE ARE A FRESH REGISTER AND A RUN OF THEM FROM IT, and each call that only asks has an answer after them
+pub record Exists (cols : Columns) (ls : LoadColumns) (cs : List Call) : Type 1 where
+  pub start : Fresh
+  pub begun : Begun start
+  pub run : Run (lent (start .head) cols ls) cs
   pub engagement : (actor category : List ℕ) (day s : ℕ) → (y : Engaged) × Engages (run .register) actor category day s y
   pub record-of : (asker : List ℕ) (id : ℕ) → (y : Shown) × Shows (run .register) asker id y
   pub history : (actor before : List ℕ) → (y : Listed) × (later : List ℕ) × Lists (run .register) actor before y later
 
-pub every-list-runs : (cols : Columns) (ls : List (List ℕ)) → Lent cols ls → (cs : List Call) → Exists cols ls cs
-every-list-runs cols ls l cs =
-    let runs = run cs (record { head = freshHead; columns = cols; loads = ls }) (fresh-sized cols ls l) in
+pub every-list-runs : (cols : Columns) (ls : LoadColumns) → RecordsSized cols → LoadsSized ls → (cs : List Call) → Exists cols ls cs
+every-list-runs cols ls c l cs =
+    let runs = run cs (lent freshHead cols ls) (fresh-sized cols ls c l) in
     record {
-      head = freshHead;
-      start = fresh-begun;
+      start = freshRegister;
+      begun = fresh-begun;
       run = runs;
       engagement = λ actor category day s. (_, engagement-exists (runs .register) actor category day s);
       record-of = λ asker id. (_, record-exists (runs .register) asker id);

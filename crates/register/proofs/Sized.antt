@@ -7,21 +7,19 @@ use Prim.Native.Nat.{ℕ, _<_}
 use lib.ListN.{length, getD}
 use Rattle.ledger.specs.Call.{Call}
 use Rattle.ledger.specs.declared.Answer.{Answer}
-use Rattle.tables.specs.Tables.{Columns}
-use Rattle.tables.specs.declared.loads.Loads.{Loads}
-use Rattle.tables.specs.declared.records.Records.{Records}
+use Rattle.tables.specs.Tables.{Columns, LoadColumns}
 use Rattle.register.specs.View.{Register}
 use Rattle.register.proofs.Runs.{Did}
 
 -- EACH ARRAY HAS THE PLACES THAT ITS TYPE SAYS, in the head and in what is lent
-pub record LoadsSized (x : Loads) (rows : List (List ℕ)) : Type 0 where
-  pub keys : length (x .keys) ≡ 64
-  pub approved : length (x .approved) ≡ 64
-  pub powers : length rows ≡ 64
+pub record LoadsSized (cols : LoadColumns) : Type 0 where
+  pub keys : length (cols .keys) ≡ 64
+  pub approved : length (cols .approved) ≡ 64
+  pub rows : length (cols .rows) ≡ 64
 
-pub record RecordsSized (x : Records) (cols : Columns) : Type 0 where
-  pub statuses : length (x .statuses) ≡ 256
-  pub ids : length (x .ids) ≡ 256
+pub record RecordsSized (cols : Columns) : Type 0 where
+  pub statuses : length (cols .statuses) ≡ 256
+  pub ids : length (cols .ids) ≡ 256
   pub keys : length (cols .keys) ≡ 256
   pub marks : length (cols .marks) ≡ 256
   pub rows : length (cols .rows) ≡ 256
@@ -31,12 +29,12 @@ pub record RecordsSized (x : Records) (cols : Columns) : Type 0 where
 pub record Sized (r : Register) : Type 0 where
   pub actors : length (r .head .actors .entries) ≡ 8
   pub categories : length (r .head .categories .entries) ≡ 4
-  pub loads : LoadsSized (r .head .loads) (r .loads)
-  pub records : RecordsSized (r .head .records) (r .columns)
+  pub loads : LoadsSized (r .loads)
+  pub records : RecordsSized (r .columns)
 
 -- a reference to a value
-abbrev pub lent : {X : Type 0} → X → RefT X
-lent x = record { ptr = (0, 0); name = 0; now = x }
+abbrev pub ref : {X : Type 0} → X → RefT X
+ref x = record { ptr = (0, 0); name = 0; now = x }
 
 -- a call that can be made, and what comes of it
 pub record Next (r : Register) (c : Call) : Type 1 where

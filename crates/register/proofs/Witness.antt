@@ -11,32 +11,42 @@ use Rattle.ledger.specs.declared.Engaged.the-variants.{Power}
 use Rattle.ledger.proofs.Examples.{first, second, category, plainDay}
 use Rattle.ledger.proofs.Witness.{calls, told, reached, pair, met}
 use Rattle.ledger.proofs.Whole.{demand3}
-use Rattle.tables.specs.Tables.{Columns}
+use Rattle.tables.specs.Tables.{Columns, LoadColumns, columns, loadColumns}
 use Rattle.register.proofs.Runs.{Engages}
 use Rattle.register.proofs.Demand2.{Demand2, demand2-of-calls}
-use Rattle.register.proofs.RunsExist.{Lent, Exists, every-list-runs}
+use Rattle.register.proofs.RunsExist.{Exists, every-list-runs}
+use Rattle.register.proofs.Sized.{RecordsSized, LoadsSized}
 
-abbrev pub columns : Columns
-columns = record { keys = replicate 256 0; marks = replicate 256 (replicate 4 0); rows = replicate 256 (replicate 50 0) }
+abbrev pub zeros : Columns
+zeros = columns (replicate 256 0) (replicate 256 0) (replicate 256 0) (replicate 256 (replicate 4 0)) (replicate 256 (replicate 50 0))
 
-abbrev pub loads : List (List ℕ)
-loads = replicate 64 (replicate 50 0)
+abbrev pub noLoads : LoadColumns
+noLoads = loadColumns (replicate 64 0) (replicate 64 0) (replicate 64 (replicate 50 0))
 
-pub lent-zeros : Lent columns loads
-lent-zeros =
+pub zeros-sized : RecordsSized zeros
+zeros-sized =
     record {
+      statuses = length-replicate {A = ℕ} 256 0;
+      ids = length-replicate {A = ℕ} 256 0;
       keys = length-replicate {A = ℕ} 256 0;
       marks = length-replicate {A = List ℕ} 256 (replicate 4 0);
       rows = length-replicate {A = List ℕ} 256 (replicate 50 0);
       marked = λ i h. ap length (getD-replicate {A = List ℕ} 256 i (replicate 4 0) [] h);
-      loads = length-replicate {A = List ℕ} 64 (replicate 50 0);
     }
 
-pub ran : Exists columns loads calls
-ran = every-list-runs columns loads lent-zeros calls
+pub loads-sized : LoadsSized noLoads
+loads-sized =
+    record {
+      keys = length-replicate {A = ℕ} 64 0;
+      approved = length-replicate {A = ℕ} 64 0;
+      rows = length-replicate {A = List ℕ} 64 (replicate 50 0);
+    }
+
+pub ran : Exists zeros noLoads calls
+ran = every-list-runs zeros noLoads zeros-sized loads-sized calls
 
 answers : Demand2 calls (ran .run .answers) (ran .run .register)
-answers = demand2-of-calls (ran .head) (ran .start) columns loads calls (ran .run .answers) (ran .run .register) (ran .run .ran)
+answers = demand2-of-calls (ran .start) (ran .begun) zeros noLoads calls (ran .run .answers) (ran .run .register) (ran .run .ran)
 
 -- every call of the list is accepted, and the second filing is validated
 pub accepted : ran .run .answers ≡

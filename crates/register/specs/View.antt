@@ -1,24 +1,26 @@
--- A REGISTER, AND THE LEDGER THAT IT HOLDS with its head, its lent columns and the loads' lent rows.
-use mathlib.Core.List.{List}
+-- A REGISTER, AND THE LEDGER THAT IT HOLDS with its head and its lent columns.
 use Prim.Native.Nat.{ℕ}
 use Rattle.ledger.specs.Ledger.{Ledger}
-use Rattle.tables.specs.Tables.{Columns, actorsIn, categoriesIn, loadsIn, recordsIn}
+use Rattle.tables.specs.Tables.{Columns, LoadColumns, actorsIn, categoriesIn, loadsIn, recordsIn}
 use Rattle.register.specs.declared.Head.{Head}
 
--- a register: its head, and the columns and rows that the caller lends with it
+-- a register: its head, and the columns of records and of loads that the caller lends with it
 pub record Register : Type 0 where
   pub head : Head
   pub columns : Columns
-  pub loads : List (List ℕ)
+  pub loads : LoadColumns
 
-unfoldable pub view : Head → Columns → List (List ℕ) → Ledger
-view h cols rows =
+abbrev pub lent : Head → Columns → LoadColumns → Register
+lent h columns loads = record { head = h; columns = columns; loads = loads }
+
+unfoldable pub view : Head → Columns → LoadColumns → Ledger
+view h columns loads =
     record {
       clock = h .clock;
       actors = actorsIn (h .actors);
       categories = categoriesIn (h .categories);
-      loads = loadsIn (h .loads) rows;
-      records = recordsIn (h .records) cols;
+      loads = loadsIn (h .loads) loads;
+      records = recordsIn (h .records) columns;
     }
 
 -- the ledger that it holds

@@ -7,113 +7,92 @@ use lib.ListN.{getD, set, replicate}
 use Rattle.calendar.specs.Steps.{stepsOf}
 use Rattle.calendar.specs.Clocks.{firstCounted, freshClock}
 use Rattle.calendar.specs.declared.clock.Clock.{Clock}
-use Rattle.refusals.specs.Tests.{decide}
+use Rattle.refusals.specs.Tests.{firstMet, decide}
 use Rattle.notification.specs.Forms.{sixBytes, inPlaces}
-use Rattle.notification.specs.Reading.{readFile}
-use Rattle.ledger.specs.Ledger.{Key, Rec, actorPlaces, categoryPlaces, loadPlaces, recordPlaces, actorAt, categoryAt}
-use Rattle.ledger.specs.Call.{Call, enrolActor, enrolCategory, load, file, advance}
-use Rattle.ledger.specs.Calls.{Outcome, verdictOf, step, moment}
-use Rattle.ledger.specs.Filing.{nobody, keyOf, pairs, changed, statusBy}
+use Rattle.notification.specs.declared.Notification.{Notification}
+use Rattle.ledger.specs.Ledger.{Key, Rec, actorPlaces, categoryPlaces, recordPlaces, actorAt, categoryAt}
+use Rattle.ledger.specs.Call.{readForm, Call, enrolActor, enrolCategory, load, file, advance}
+use Rattle.ledger.specs.Calls.{Outcome, verdictOf, stepNote, step, moment}
+use Rattle.ledger.specs.Filing.{nobody, keyOf, filingTests, pairs, changed, statusBy, nextId}
 use Rattle.ledger.specs.declared.Answer.{Answer}
-use Rattle.tables.specs.Tables.{loadNumber, keyNumber, recordIn}
-use Rattle.tables.specs.More.{moreActors, moreCategories, moreLoads, putTo, withUntil}
+use Rattle.ledger.specs.declared.Entry.{Entry}
+use Rattle.tables.specs.Tables.{columns, loadNumber, keyNumber, recordIn}
+use Rattle.tables.specs.More.{moreActors, moreCategories, loadPut, putTo, withUntil}
 use Rattle.tables.specs.declared.actors.Actors.{Actors}
 use Rattle.tables.specs.declared.categories.Categories.{Categories}
-use Rattle.tables.specs.declared.loads.Loads.{Loads}
-use Rattle.tables.specs.declared.records.Records.{Records}
+use Rattle.register.specs.declared.Fresh.{Fresh}
 use Rattle.register.specs.declared.Head.{Head}
-use Rattle.register.specs.View.{Register, held}
+use Rattle.register.specs.View.{Register, lent, held}
 
--- a fresh head ("the fresh register's per-record statuses and ids are [0; 256] arrays"): every place holds 0
+-- a fresh register: every place of its head holds 0, and "the fresh register's per-record statuses and ids are [0; 256] arrays"
 abbrev pub freshHead : Head
 freshHead =
     record {
       clock = freshClock;
       actors = record { count = 0; entries = replicate actorPlaces nobody };
       categories = record { count = 0; entries = replicate categoryPlaces (record { text = replicate 6 0 }) };
-      loads = record { count = 0; keys = replicate loadPlaces 0; approved = replicate loadPlaces 0 };
-      records = record { count = 0; statuses = replicate recordPlaces 0; ids = replicate recordPlaces 0 };
+      loads = 0;
+      records = 0;
     }
 
--- ---- a register with another clock or another table
+abbrev pub freshRegister : Fresh
+freshRegister = record { head = freshHead; statuses = replicate recordPlaces 0; ids = replicate recordPlaces 0 }
 
-abbrev pub clockPut : Register → Clock → Register
-clockPut r t =
-    record {
-      head = record { clock = t; actors = r .head .actors; categories = r .head .categories; loads = r .head .loads; records = r .head .records };
-      columns = r .columns;
-      loads = r .loads;
-    }
+-- ---- a head with another clock or another table
 
-abbrev pub actorsPut : Register → Actors → Register
-actorsPut r x =
-    record {
-      head = record { clock = r .head .clock; actors = x; categories = r .head .categories; loads = r .head .loads; records = r .head .records };
-      columns = r .columns;
-      loads = r .loads;
-    }
+abbrev pub withClock : Head → Clock → Head
+withClock h t = record { clock = t; actors = h .actors; categories = h .categories; loads = h .loads; records = h .records }
 
-abbrev pub categoriesPut : Register → Categories → Register
-categoriesPut r x =
-    record {
-      head = record { clock = r .head .clock; actors = r .head .actors; categories = x; loads = r .head .loads; records = r .head .records };
-      columns = r .columns;
-      loads = r .loads;
-    }
+abbrev pub withActors : Head → Actors → Head
+withActors h x = record { clock = h .clock; actors = x; categories = h .categories; loads = h .loads; records = h .records }
 
-abbrev pub loadsPut : Register → Loads → List (List ℕ) → Register
-loadsPut r x rows =
-    record {
-      head = record { clock = r .head .clock; actors = r .head .actors; categories = r .head .categories; loads = x; records = r .head .records };
-      columns = r .columns;
-      loads = rows;
-    }
+abbrev pub withCategories : Head → Categories → Head
+withCategories h x = record { clock = h .clock; actors = h .actors; categories = x; loads = h .loads; records = h .records }
+
+abbrev pub withLoads : Head → ℕ → Head
+withLoads h n = record { clock = h .clock; actors = h .actors; categories = h .categories; loads = n; records = h .records }
+
+abbrev pub withRecords : Head → ℕ → Head
+withRecords h n = record { clock = h .clock; actors = h .actors; categories = h .categories; loads = h .loads; records = n }
 
 -- ---- a filing that is accepted
 
 -- the record of a filing stands at the first free place; each record before it has the status and the until-step that the filing gives it
 unfoldable pub recordPut : Register → ℕ → Key → List ℕ → Register
 recordPut r by k ps =
-    let x = r .head .records in
-    let n = x .count in
+    let n = r .head .records in
+    let clock = r .head .clock in
     let cols = r .columns in
     let paired = pairs by k ps (held r .records) in
-    let made : ℕ → Rec = λ i. changed paired (r .head .clock) by k ps (recordIn x cols i) in
-    let mark = by ∷ firstCounted (r .head .clock) (k .day) ∷ stepsOf (k .day) ∷ 0 ∷ [] in
-    record {
-      head = record {
-        clock = r .head .clock;
-        actors = r .head .actors;
-        categories = r .head .categories;
-        loads = r .head .loads;
-        records = record {
-          count = n + 1;
-          statuses = set (putTo (λ i. made i .status) n (x .statuses)) n (statusBy paired);
-          ids = set (x .ids) n (n + 1);
-        };
-      };
-      columns = record {
-        keys = set (cols .keys) n (keyNumber (k .ceder) (k .acquirer) (k .category) (k .day));
-        marks = set (putTo (λ i. withUntil (getD (cols .marks) i []) (made i .until)) n (cols .marks)) n mark;
-        rows = set (cols .rows) n ps;
-      };
-      loads = r .loads;
-    }
+    let made : ℕ → Rec = λ i. changed paired clock by k ps (recordIn cols i) in
+    lent (withRecords (r .head) (n + 1))
+    (columns
+    (set (putTo (λ i. made i .status) n (cols .statuses)) n (statusBy paired))
+    (set (cols .ids) n (nextId (held r)))
+    (set (cols .keys) n (keyNumber (k .ceder) (k .acquirer) (k .category) (k .day)))
+    (set (putTo (λ i. withUntil (getD (cols .marks) i []) (made i .until)) n (cols .marks)) n
+    (by ∷ firstCounted clock (k .day) ∷ stepsOf (k .day) ∷ 0 ∷ []))
+    (set (cols .rows) n ps))
+    (r .loads)
+
+-- of a notification, by its submitter's code
+abbrev pub notePut : Register → List ℕ → Notification → Register
+notePut r submitter n = recordPut r (actorAt (held r .actors) submitter) (keyOf (held r) n) (n .powers)
 
 -- ---- the calls
 
 -- what an accepted call of demand 3's list writes: one actor, category, load or record more, or the clock
 unfoldable pub writes : Register → Call → Register
-writes r (enrolActor code first last) = actorsPut r (moreActors (r .head .actors) (record { code = code; first = first; last = last }))
-writes r (enrolCategory text) = categoriesPut r (moreCategories (r .head .categories) (record { text = sixBytes text }))
+writes r (enrolActor code first last) =
+    lent (withActors (r .head) (moreActors (r .head .actors) (record { code = code; first = first; last = last }))) (r .columns) (r .loads)
+writes r (enrolCategory text) =
+    lent (withCategories (r .head) (moreCategories (r .head .categories) (record { text = sixBytes text }))) (r .columns) (r .loads)
 writes r (load actor category day most ps) =
-    loadsPut r
-    (moreLoads (r .head .loads) (loadNumber (actorAt (held r .actors) actor) (categoryAt (held r .categories) category) day) most)
-    (set (r .loads) (r .head .loads .count) (inPlaces ps))
-writes r (file submitter name body) =
-    let n = readFile name body .notification in
-    recordPut r (actorAt (held r .actors) submitter) (keyOf (held r) n) (n .powers)
-writes r (advance day minute) = clockPut r (moment day minute)
+    let n = r .head .loads in
+    let number = loadNumber (actorAt (held r .actors) actor) (categoryAt (held r .categories) category) day in
+    lent (withLoads (r .head) (n + 1)) (r .columns) (loadPut (r .loads) n number most (inPlaces ps))
+writes r (file entry submitter form) = notePut r submitter (readForm submitter form .notification)
+writes r (advance day minute) = lent (withClock (r .head) (moment day minute)) (r .columns) (r .loads)
 
 -- A REFUSED CALL LEAVES THE REGISTER AS IT CAME IN
 unfoldable pub leaves : Register → Call → Register
@@ -126,6 +105,14 @@ pub record Done : Type 0 where
 
 abbrev pub does : Register → Call → Done
 does r c = record { register = leaves r c; outcome = step (held r) c }
+
+-- the same of a notification that was read
+abbrev pub doesNote : Register → Entry → List ℕ → Notification → Done
+doesNote r entry submitter n =
+    record {
+      register = decide (firstMet (filingTests (held r) entry submitter n)) (notePut r submitter n) (λ f. r);
+      outcome = stepNote (held r) entry submitter n;
+    }
 
 -- what is seen of a call: the register after it, the ledger that this holds, and the answer
 abbrev pub seen : Register → Answer → Done

@@ -3,10 +3,11 @@ ghost use mathlib.Core.Path.{_≡_};
 ghost use mathlib.Core.List.{List};
 ghost use Prim.Native.Nat.{ℕ, _-_, _<_};
 ghost use lib.ListN.{length};
-ghost use Rattle.ledger.specs.Asking.{askEngagement, codeAt, categoryOf, notShown, shown, askRecord, askHistory, historyIn};
-ghost use Rattle.refusals.specs.Tests.{state};
+ghost use Rattle.refusals.specs.Tests.{state, firstMet};
 ghost use Rattle.notification.specs.Forms.{sixBytes, categoryText};
-ghost use Rattle.tables.specs.Tables.{Columns, recordIn};
+ghost use Rattle.ledger.specs.Ledger.{actorAt, categoryAt};
+ghost use Rattle.ledger.specs.Asking.{engagementTests, askEngagement, codeAt, categoryOf, notShown, shown, askRecord, askHistory, historyIn};
+ghost use Rattle.tables.specs.Tables.{Columns, LoadColumns, columns, loadColumns, actorsIn, categoriesIn, recordIn};
 ghost use Rattle.register.specs.View.{view};
 use crate::Head;
 use calendar::steps_of;
@@ -23,10 +24,14 @@ use refusals::InputRefusal;
 use refusals::Refusal;
 use refusals::StateRefusal;
 use refusals::Verdict;
+use refusals::trying::by_state;
+use refusals::trying::try_input;
+use refusals::trying::try_state;
 use tables::actors::ACTORS;
 use tables::actors::least;
 use tables::categories::CATEGORIES;
 use tables::loads::Found;
+use tables::loads::last_of;
 use tables::loads::load_number;
 use tables::loads::row_at;
 use tables::records::RECORDS;
@@ -40,26 +45,6 @@ fn less(gained: u32, given: u32) -> u32
     if given <= gained { gained - given } else { 0 }
 }
 
-// What the engagement call answers where it is refused.
-fn no_power(f: StateRefusal) -> Engaged
-    ensures { λ r. ⌜ r ≡ Engaged.Refused (Refusal.State f 0) ⌝ }
-{
-    Engaged::Refused(Refusal::State(f, 0))
-}
-
-fn no_step(f: InputRefusal) -> Engaged
-    ensures { λ r. ⌜ r ≡ Engaged.Refused (Refusal.Input f 0) ⌝ }
-{
-    Engaged::Refused(Refusal::Input(f, 0))
-}
-
-// What the history call answers where it is refused.
-fn no_list(f: StateRefusal) -> Listed
-    ensures { λ r. ⌜ r ≡ Listed.Refused (Refusal.State f 0) ⌝ }
-{
-    Listed::Refused(Refusal::State(f, 0))
-}
-
 // Six bytes of a category are those of its text.
 fn six_of(text: [u8; 6]) -> [u8; 6]
     ensures { λ r. ⌜ r ≡ sixBytes (categoryText text) ⌝ }
@@ -68,44 +53,62 @@ fn six_of(text: [u8; 6]) -> [u8; 6]
 }
 
 impl Head {
+    // What the engagement call comes to, by the places of its actor and its category: 22, 23, 10.
+    fn engagement_verdict(self, a: u32, z: u32, day: u32, step: u32) -> Verdict
+        ensures { λ r. ⌜ ((columns : Columns) (loads : LoadColumns) (actor category : List ℕ) →
+            a ≡ actorAt (actorsIn (self .actors)) actor → z ≡ categoryAt (categoriesIn (self .categories)) category →
+            r ≡ firstMet (engagementTests (view self columns loads) actor category day step)) ⌝ }
+    {
+        let v = try_state(
+            Verdict::Pass,
+            !(a < least(self.actors.count, ACTORS)),
+            StateRefusal::ActorUnknown,
+        );
+        let v = try_state(
+            v,
+            !(z < least(self.categories.count, CATEGORIES)),
+            StateRefusal::CategoryUnknown,
+        );
+        try_input(v, !(step < steps_of(day)), InputRefusal::Range)
+    }
+
     // An actor's own engagement at a step of a day.
     pub fn engagement(
         self,
+        statuses: &[u8; 256],
         keys: &[u32; 256],
         marks: &[[u8; 4]; 256],
         rows: &[[u16; 50]; 256],
+        numbers: &[u32; 64],
         loads: &[[u16; 50]; 64],
         actor: &[u8],
         category: &[u8],
         day: u32,
         step: u32,
     ) -> Engaged
-        ensures { λ r. ⌜ r ≡ askEngagement (view self (record { keys = now (keys .entry); marks = now (marks .entry); rows = now (rows .entry) }) (now (loads .entry))) (now (actor .entry)) (now (category .entry)) day step ⌝ }
+        ensures { λ r. ⌜ ((ids approved : List ℕ) →
+            r ≡ askEngagement (view self
+            (columns (now (statuses .entry)) ids (now (keys .entry)) (now (marks .entry)) (now (rows .entry)))
+            (loadColumns (now (numbers .entry)) approved (now (loads .entry))))
+            (now (actor .entry)) (now (category .entry)) day step) ⌝ }
     {
         let actors = self.actors;
         let a = actors.place(actor);
-        if !(a < least(actors.count, ACTORS)) {
-            return no_power(StateRefusal::ActorUnknown);
-        }
         let categories = self.categories;
         let z = categories.place(category);
-        if !(z < least(categories.count, CATEGORIES)) {
-            return no_power(StateRefusal::CategoryUnknown);
+        let verdict = self.engagement_verdict(a, z, day, step);
+        if let Verdict::No(r) = verdict {
+            return Engaged::Refused(r);
         }
-        if !(step < steps_of(day)) {
-            return no_step(InputRefusal::Range);
-        }
-        let held = self.loads;
-        let row = row_at(loads, held.find(load_number(a, z, day)));
-        let statuses = self.records.statuses;
-        let n = least(self.records.count, RECORDS);
-        let totals = totals_of(&statuses, keys, marks, rows, n, day * 4 + z, a, step);
+        let row = row_at(loads, last_of(numbers, self.loads, load_number(a, z, day)));
+        let n = least(self.records, RECORDS);
+        let totals = totals_of(statuses, keys, marks, rows, n, day * 4 + z, a, step);
         Engaged::Power(less(wide(row[step as usize]) + totals.gained, totals.given))
     }
 
     // The code of the actor at a place, or zeros.
     fn code_at(self, place: u32) -> [u8; 16]
-        ensures { λ r. ⌜ ((cols : Columns) (loads : List (List ℕ)) → r ≡ codeAt (view self cols loads) place) ⌝ }
+        ensures { λ r. ⌜ ((columns : Columns) (loads : LoadColumns) → r ≡ codeAt (view self columns loads) place) ⌝ }
     {
         let actors = self.actors;
         if place < least(actors.count, ACTORS) {
@@ -118,7 +121,7 @@ impl Head {
 
     // The category at a place in six bytes, or zeros.
     fn category_at(self, place: u32) -> [u8; 6]
-        ensures { λ r. ⌜ ((cols : Columns) (loads : List (List ℕ)) → r ≡ categoryOf (view self cols loads) place) ⌝ }
+        ensures { λ r. ⌜ ((columns : Columns) (loads : LoadColumns) → r ≡ categoryOf (view self columns loads) place) ⌝ }
     {
         let categories = self.categories;
         if place < least(categories.count, CATEGORIES) {
@@ -158,19 +161,23 @@ impl Head {
     // The record at a place, with its codes and its category.
     fn shown_at(
         self,
+        statuses: &[u8; 256],
         keys: &[u32; 256],
         marks: &[[u8; 4]; 256],
         rows: &[[u16; 50]; 256],
         i: u32,
     ) -> Shown
         requires { ⌜ i < 256 ⌝ }
-        ensures { λ r. ⌜ ((loads : List (List ℕ)) → r ≡ shown (view self (record { keys = now (keys .entry); marks = now (marks .entry); rows = now (rows .entry) }) loads) (recordIn (self .records) (record { keys = now (keys .entry); marks = now (marks .entry); rows = now (rows .entry) }) i)) ⌝ }
+        ensures { λ r. ⌜ ((ids : List ℕ) (loads : LoadColumns) →
+            r ≡ shown (view self
+            (columns (now (statuses .entry)) ids (now (keys .entry)) (now (marks .entry)) (now (rows .entry))) loads)
+            (recordIn
+            (columns (now (statuses .entry)) ids (now (keys .entry)) (now (marks .entry)) (now (rows .entry))) i)) ⌝ }
     {
         let at = i as usize;
         let number = keys[at];
         let mark = marks[at];
         let row = rows[at];
-        let statuses = self.records.statuses;
         let day = number / 256;
         let key = Key {
             ceder: self.code_at(number / 8 % 8),
@@ -196,47 +203,59 @@ impl Head {
     // A record by its id, for an actor who is ceder or acquirer of it.
     pub fn record(
         self,
+        statuses: &[u8; 256],
+        ids: &[u32; 256],
         keys: &[u32; 256],
         marks: &[[u8; 4]; 256],
         rows: &[[u16; 50]; 256],
         asker: &[u8],
         id: u32,
     ) -> Shown
-        ensures { λ r. ⌜ ((loads : List (List ℕ)) → r ≡ askRecord (view self (record { keys = now (keys .entry); marks = now (marks .entry); rows = now (rows .entry) }) loads) (now (asker .entry)) id) ⌝ }
+        ensures { λ r. ⌜ ((loads : LoadColumns) →
+            r ≡ askRecord (view self
+            (columns (now (statuses .entry)) (now (ids .entry)) (now (keys .entry)) (now (marks .entry)) (now (rows .entry)))
+            loads) (now (asker .entry)) id) ⌝ }
     {
         let actors = self.actors;
         let a = actors.place(asker);
         if !(a < least(actors.count, ACTORS)) {
             return self.not_shown(StateRefusal::ActorUnknown);
         }
-        let records = self.records;
-        let ids = records.ids;
-        let found = find_id(ids, records.count, id);
+        let found = find_id(ids, self.records, id);
         match found {
             Found::At(i) => {
                 if !is_party(keys[i as usize], a) {
                     return self.not_shown(StateRefusal::NotAsker);
                 }
-                self.shown_at(keys, marks, rows, i)
+                self.shown_at(statuses, keys, marks, rows, i)
             }
             Found::Nothing => self.not_shown(StateRefusal::NoRecord),
         }
     }
 
     // An actor's history: the ids of all records that it is a party to, into a lent buffer, and how many they are.
-    pub fn history(self, keys: &[u32; 256], actor: &[u8], ids: &mut [u32]) -> Listed
-        ensures { λ r. ⌜ ((marks rows loads : List (List ℕ)) → (r ≡ askHistory (view self (record { keys = now (keys .entry); marks = marks; rows = rows }) loads) (now (actor .entry)) (length (now (ids .entry)))) × (now (ids .exit) ≡ historyIn (view self (record { keys = now (keys .entry); marks = marks; rows = rows }) loads) (now (actor .entry)) (now (ids .entry)))) ⌝ }
+    pub fn history(
+        self,
+        ids: &[u32; 256],
+        keys: &[u32; 256],
+        actor: &[u8],
+        out: &mut [u32],
+    ) -> Listed
+        ensures { λ r. ⌜ ((statuses : List ℕ) (marks rows : List (List ℕ)) (loads : LoadColumns) →
+            (r ≡ askHistory (view self (columns statuses (now (ids .entry)) (now (keys .entry)) marks rows) loads)
+            (now (actor .entry)) (length (now (out .entry))))
+            × (now (out .exit)
+            ≡ historyIn (view self (columns statuses (now (ids .entry)) (now (keys .entry)) marks rows) loads)
+            (now (actor .entry)) (now (out .entry)))) ⌝ }
     {
         let actors = self.actors;
         let a = actors.place(actor);
         if !(a < least(actors.count, ACTORS)) {
-            return no_list(StateRefusal::ActorUnknown);
+            return Listed::Refused(by_state(StateRefusal::ActorUnknown));
         }
-        let records = self.records;
-        let own = records.ids;
-        let count = list_ids(keys, own, records.count, a, &mut *ids);
-        if ids.len() < count as usize {
-            return no_list(StateRefusal::Full);
+        let count = list_ids(keys, ids, self.records, a, &mut *out);
+        if out.len() < count as usize {
+            return Listed::Refused(by_state(StateRefusal::Full));
         }
         Listed::Count(count)
     }

@@ -1,20 +1,18 @@
 // A fresh register; enrolling an actor or a category; advancing the clock.
 ghost use mathlib.Core.Path.{_≡_};
-ghost use mathlib.Core.List.{List};
-ghost use Prim.Native.Nat.{ℕ};
 ghost use Rattle.refusals.specs.Tests.{firstMet};
 ghost use Rattle.ledger.specs.Call.{enrolActor, enrolCategory, advance};
 ghost use Rattle.ledger.specs.Ledger.{fresh};
 ghost use Rattle.ledger.specs.Calls.{actorTests, categoryTests};
-ghost use Rattle.tables.specs.Tables.{Columns};
-ghost use Rattle.register.specs.View.{view};
-ghost use Rattle.register.specs.Written.{freshHead, seen, does};
+ghost use Rattle.tables.specs.Tables.{Columns, LoadColumns};
+ghost use Rattle.register.specs.View.{view, lent};
+ghost use Rattle.register.specs.Written.{freshRegister, seen, does};
+use crate::Fresh;
 use crate::Head;
 use crate::Reply;
 use calendar::Advance;
 use calendar::Clock;
 use calendar::DAYS;
-use judging::steps::no;
 use ledger::Actor;
 use ledger::Answer;
 use notification::forms::is_category;
@@ -23,6 +21,8 @@ use refusals::InputRefusal;
 use refusals::Refusal;
 use refusals::StateRefusal;
 use refusals::Verdict;
+use refusals::trying::try_input;
+use refusals::trying::try_state;
 use tables::actors::ACTORS;
 use tables::actors::Actors;
 use tables::actors::least;
@@ -31,20 +31,12 @@ use tables::categories::CATEGORIES;
 use tables::categories::Categories;
 use tables::categories::Category;
 use tables::categories::six;
-use tables::loads::Loads;
-use tables::records::Records;
-
-// A refusal that comes from the input; its place isn't named.
-pub(crate) fn no_input(r: InputRefusal) -> Verdict
-    ensures { λ v. ⌜ v ≡ Verdict.No (Refusal.Input r 0) ⌝ }
-{
-    Verdict::No(Refusal::Input(r, 0))
-}
 
 impl Head {
     // A register that holds nothing, with its clock at day 0, minute 0.
-    pub fn fresh() -> Head
-        ensures { λ r. ⌜ (r ≡ freshHead) × ((cols : Columns) (loads : List (List ℕ)) → view r cols loads ≡ fresh) ⌝ }
+    pub fn fresh() -> Fresh
+        ensures { λ r. ⌜ (r ≡ freshRegister)
+            × ((columns : Columns) (loads : LoadColumns) → view (r .head) columns loads ≡ fresh) ⌝ }
     {
         let nobody = Actor {
             code: [0; 16],
@@ -52,7 +44,7 @@ impl Head {
             last: 0,
         };
         let none = Category { text: [0; 6] };
-        Head {
+        let head = Head {
             clock: Clock::fresh(),
             actors: Actors {
                 count: 0,
@@ -62,16 +54,13 @@ impl Head {
                 count: 0,
                 entries: [none; 4],
             },
-            loads: Loads {
-                count: 0,
-                keys: [0; 64],
-                approved: [0; 64],
-            },
-            records: Records {
-                count: 0,
-                statuses: [0; 256],
-                ids: [0; 256],
-            },
+            loads: 0,
+            records: 0,
+        };
+        Fresh {
+            head: head,
+            statuses: [0; 256],
+            ids: [0; 256],
         }
     }
 
@@ -87,29 +76,24 @@ impl Head {
 
     // What enrolling an actor comes to: 9, 10, 37, 36.
     fn actor_verdict(self, code: &[u8], first: u32, last: u32) -> Verdict
-        ensures { λ r. ⌜ ((cols : Columns) (loads : List (List ℕ)) → r ≡ firstMet (actorTests (view self cols loads) (now (code .entry)) first last)) ⌝ }
+        ensures { λ r. ⌜ ((columns : Columns) (loads : LoadColumns) →
+            r ≡ firstMet (actorTests (view self columns loads) (now (code .entry)) first last)) ⌝ }
     {
-        if !is_code(code) {
-            return no_input(InputRefusal::Form);
-        }
-        if !((first < DAYS) & (last < DAYS) & (first <= last)) {
-            return no_input(InputRefusal::Range);
-        }
         let actors = self.actors;
         let n = least(actors.count, ACTORS);
         let at = actors.place(code);
-        if at < n {
-            return no(StateRefusal::There, 0);
-        }
-        if !(n < ACTORS) {
-            return no(StateRefusal::Full, 0);
-        }
-        Verdict::Pass
+        let in_range = (first < DAYS) & (last < DAYS) & (first <= last);
+        let v = try_input(Verdict::Pass, !is_code(code), InputRefusal::Form);
+        let v = try_input(v, !in_range, InputRefusal::Range);
+        let v = try_state(v, at < n, StateRefusal::There);
+        try_state(v, !(n < ACTORS), StateRefusal::Full)
     }
 
     // Enrols an actor with a contract from a first to a last day, and answers how many actors there now are.
     pub fn enrol_actor(self, code: &[u8], first: u32, last: u32) -> Reply
-        ensures { λ r. ⌜ ((cols : Columns) (loads : List (List ℕ)) → seen (record { head = r .head; columns = cols; loads = loads }) (r .answer) ≡ does (record { head = self; columns = cols; loads = loads }) (enrolActor (now (code .entry)) first last)) ⌝ }
+        ensures { λ r. ⌜ ((columns : Columns) (loads : LoadColumns) →
+            seen (lent (r .head) columns loads) (r .answer)
+            ≡ does (lent self columns loads) (enrolActor (now (code .entry)) first last)) ⌝ }
     {
         let verdict = self.actor_verdict(code, first, last);
         if let Verdict::No(r) = verdict {
@@ -133,26 +117,22 @@ impl Head {
 
     // What enrolling a category comes to: 9, 37, 36.
     fn category_verdict(self, text: &[u8]) -> Verdict
-        ensures { λ r. ⌜ ((cols : Columns) (loads : List (List ℕ)) → r ≡ firstMet (categoryTests (view self cols loads) (now (text .entry)))) ⌝ }
+        ensures { λ r. ⌜ ((columns : Columns) (loads : LoadColumns) →
+            r ≡ firstMet (categoryTests (view self columns loads) (now (text .entry)))) ⌝ }
     {
-        if !is_category(text) {
-            return no_input(InputRefusal::Form);
-        }
         let categories = self.categories;
         let n = least(categories.count, CATEGORIES);
         let at = categories.place(text);
-        if at < n {
-            return no(StateRefusal::There, 0);
-        }
-        if !(n < CATEGORIES) {
-            return no(StateRefusal::Full, 0);
-        }
-        Verdict::Pass
+        let v = try_input(Verdict::Pass, !is_category(text), InputRefusal::Form);
+        let v = try_state(v, at < n, StateRefusal::There);
+        try_state(v, !(n < CATEGORIES), StateRefusal::Full)
     }
 
     // Enrols a category, and answers how many there now are.
     pub fn enrol_category(self, text: &[u8]) -> Reply
-        ensures { λ r. ⌜ ((cols : Columns) (loads : List (List ℕ)) → seen (record { head = r .head; columns = cols; loads = loads }) (r .answer) ≡ does (record { head = self; columns = cols; loads = loads }) (enrolCategory (now (text .entry)))) ⌝ }
+        ensures { λ r. ⌜ ((columns : Columns) (loads : LoadColumns) →
+            seen (lent (r .head) columns loads) (r .answer)
+            ≡ does (lent self columns loads) (enrolCategory (now (text .entry)))) ⌝ }
     {
         let verdict = self.category_verdict(text);
         if let Verdict::No(r) = verdict {
@@ -172,7 +152,8 @@ impl Head {
 
     // Advances the clock to a later moment, or to the same one.
     pub fn advance(self, day: u32, minute: u32) -> Reply
-        ensures { λ r. ⌜ ((cols : Columns) (loads : List (List ℕ)) → seen (record { head = r .head; columns = cols; loads = loads }) (r .answer) ≡ does (record { head = self; columns = cols; loads = loads }) (advance day minute)) ⌝ }
+        ensures { λ r. ⌜ ((columns : Columns) (loads : LoadColumns) →
+            seen (lent (r .head) columns loads) (r .answer) ≡ does (lent self columns loads) (advance day minute)) ⌝ }
     {
         let to = Clock {
             day: day,

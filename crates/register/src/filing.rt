@@ -1,28 +1,31 @@
-// Filing: a file is read, judged and recorded.
+// Filing: a form is read; what was read is judged and recorded.
 ghost use mathlib.Core.Path.{_≡_};
 ghost use mathlib.Core.List.{List};
 ghost use Prim.Native.Nat.{ℕ};
-ghost use lib.ListN.{length};
-ghost use Rattle.ledger.specs.Call.{file};
+ghost use Rattle.ledger.specs.Call.{csv, file};
 ghost use Rattle.ledger.specs.Filing.{statusBy};
-ghost use Rattle.tables.specs.Tables.{Columns};
-ghost use Rattle.register.specs.View.{view};
+ghost use Rattle.tables.specs.Tables.{LoadColumns, columns, loadColumns};
+ghost use Rattle.register.specs.View.{lent};
 ghost use Rattle.register.specs.Judging.{keyAt, Fileable, UnderListed, filesAt};
-ghost use Rattle.register.specs.Written.{seen, does};
+ghost use Rattle.register.specs.Written.{seen, does, doesNote};
 use crate::Head;
 use crate::Reply;
 use crate::verdicts::Places;
 use calendar::steps_of;
 use ledger::Answer;
+use ledger::Entry;
+use notification::Notification;
 use reader::reading::read_file;
 use recording::changing::change_all;
 use recording::pairing::is_paired;
 use refusals::Verdict;
-use tables::loads::rows_of;
 use tables::records::CREATED;
-use tables::records::Records;
 use tables::records::VALIDATED;
 use tables::records::key_number;
+use tables::sizes::size_marks;
+use tables::sizes::size_rows;
+use tables::sizes::size_u8;
+use tables::sizes::size_u32;
 
 // The status of a new record: validated where it is paired, else created.
 fn status_of(paired: bool) -> u8
@@ -31,23 +34,12 @@ fn status_of(paired: bool) -> u8
     if paired { VALIDATED } else { CREATED }
 }
 
-// How many keys and marks there are: the places for records.
-fn keys_of(s: &[u32]) -> usize
-    ensures { λ r. ⌜ r ≡ length (now (s .entry)) ⌝ }
-{
-    s.len()
-}
-
-fn marks_of(s: &[[u8; 4]]) -> usize
-    ensures { λ r. ⌜ r ≡ length (now (s .entry)) ⌝ }
-{
-    s.len()
-}
-
 impl Head {
-    // Records a filing that passes: the records under its key change, and one more is made.
+    // Records a notification that passes: the records under its key change, and one more is made.
     fn record_note(
         self,
+        statuses: &mut [u8; 256],
+        ids: &mut [u32; 256],
         keys: &mut [u32; 256],
         marks: &mut [[u8; 4]; 256],
         rows: &mut [[u16; 50]; 256],
@@ -56,8 +48,14 @@ impl Head {
         at: Places,
         ps: [u16; 50],
     ) -> Reply
-        requires { ⌜ ((cols : Columns) (loads : List (List ℕ)) → Fileable (view self cols loads) at) × UnderListed (self .records) at (now keys) count (now under) ⌝ }
-        ensures { λ r. ⌜ ((loads : List (List ℕ)) → seen (record { head = r .head; columns = record { keys = now (keys .exit); marks = now (marks .exit); rows = now (rows .exit) }; loads = loads }) (r .answer) ≡ filesAt (record { head = self; columns = record { keys = now (keys .entry); marks = now (marks .entry); rows = now (rows .entry) }; loads = loads }) (keyAt at) (at .submitter) ps) ⌝ }
+        requires { ⌜ Fileable self at × UnderListed (self .records) at (now keys) count (now under) ⌝ }
+        ensures { λ r. ⌜ ((loads : LoadColumns) →
+            seen (lent (r .head)
+            (columns (now (statuses .exit)) (now (ids .exit)) (now (keys .exit)) (now (marks .exit)) (now (rows .exit)))
+            loads) (r .answer)
+            ≡ filesAt (lent self
+            (columns (now (statuses .entry)) (now (ids .entry)) (now (keys .entry)) (now (marks .entry)) (now (rows .entry)))
+            loads) (keyAt at) (at .submitter) ps) ⌝ }
     {
         let day = at.day;
         let by = at.submitter;
@@ -65,16 +63,15 @@ impl Head {
         let clock = self.clock;
         let first = clock.first_counted(day);
         let until = steps_of(day);
-        let records = self.records;
-        let n = records.count;
-        let mut statuses = records.statuses;
-        let mut ids = records.ids;
+        let n = self.records;
         // Lent as slices, the columns show that they have 256 places.
-        let key_places = keys_of(&*keys);
-        let mark_places = marks_of(&*marks);
-        let row_places = rows_of(&*rows);
+        let status_places = size_u8(&*statuses);
+        let id_places = size_u32(&*ids);
+        let key_places = size_u32(&*keys);
+        let mark_places = size_marks(&*marks);
+        let row_places = size_rows(&*rows);
         let paired = is_paired(
-            &statuses,
+            &*statuses,
             &*keys,
             &*marks,
             &*rows,
@@ -85,7 +82,7 @@ impl Head {
             ps,
         );
         change_all(
-            &mut statuses,
+            &mut *statuses,
             &*keys,
             &mut *marks,
             &*rows,
@@ -98,52 +95,117 @@ impl Head {
             ps,
         );
         let status = status_of(paired);
+        let id = n + 1;
         let place = n as usize;
         statuses[place] = status;
-        ids[place] = n + 1;
+        ids[place] = id;
         keys[place] = own;
         marks[place] = [by as u8, first as u8, until as u8, 0];
         rows[place] = ps;
-        let made = Records {
-            count: n + 1,
-            statuses: statuses,
-            ids: ids,
-        };
         let mut head = self;
-        head.records = made;
+        head.records = n + 1;
         Reply {
             head: head,
-            answer: Answer::Filed(n + 1, status, first),
+            answer: Answer::Filed(id, status, first),
         }
     }
 
-    // Files a notification by its submitter's code, its file's name and its body.
-    pub fn file(
+    // Files a notification that was read: it is judged and recorded.
+    pub fn file_note(
         self,
+        statuses: &mut [u8; 256],
+        ids: &mut [u32; 256],
         keys: &mut [u32; 256],
         marks: &mut [[u8; 4]; 256],
         rows: &mut [[u16; 50]; 256],
+        numbers: &[u32; 64],
+        approved: &[u16; 64],
+        loads: &[[u16; 50]; 64],
+        entry: Entry,
+        submitter: &[u8],
+        n: Notification,
+    ) -> Reply
+        ensures { λ r. ⌜ seen (lent (r .head)
+            (columns (now (statuses .exit)) (now (ids .exit)) (now (keys .exit)) (now (marks .exit)) (now (rows .exit)))
+            (loadColumns (now (numbers .entry)) (now (approved .entry)) (now (loads .entry)))) (r .answer)
+            ≡ doesNote (lent self
+            (columns (now (statuses .entry)) (now (ids .entry)) (now (keys .entry)) (now (marks .entry)) (now (rows .entry)))
+            (loadColumns (now (numbers .entry)) (now (approved .entry)) (now (loads .entry))))
+            entry (now (submitter .entry)) n ⌝ }
+    {
+        let at = self.places(submitter, n);
+        let ps = n.powers;
+        let mut under = [0u8; 256];
+        let judged = self.judge(
+            &mut under,
+            &*statuses,
+            &*keys,
+            &*marks,
+            &*rows,
+            numbers,
+            approved,
+            loads,
+            entry,
+            at,
+            ps,
+        );
+        let verdict = judged.verdict;
+        if let Verdict::No(r) = verdict {
+            return self.refused(r);
+        }
+        self.record_note(
+            statuses,
+            ids,
+            keys,
+            marks,
+            rows,
+            &under,
+            judged.count,
+            at,
+            ps,
+        )
+    }
+
+    // Files a notification file by its submitter's code, its name and its body.
+    pub fn file(
+        self,
+        statuses: &mut [u8; 256],
+        ids: &mut [u32; 256],
+        keys: &mut [u32; 256],
+        marks: &mut [[u8; 4]; 256],
+        rows: &mut [[u16; 50]; 256],
+        numbers: &[u32; 64],
+        approved: &[u16; 64],
         loads: &[[u16; 50]; 64],
         submitter: &[u8],
         name: &[u8],
         body: &[u8],
     ) -> Reply
-        ensures { λ r. ⌜ seen (record { head = r .head; columns = record { keys = now (keys .exit); marks = now (marks .exit); rows = now (rows .exit) }; loads = now (loads .entry) }) (r .answer) ≡ does (record { head = self; columns = record { keys = now (keys .entry); marks = now (marks .entry); rows = now (rows .entry) }; loads = now (loads .entry) }) (file (now (submitter .entry)) (now (name .entry)) (now (body .entry))) ⌝ }
+        ensures { λ r. ⌜ seen (lent (r .head)
+            (columns (now (statuses .exit)) (now (ids .exit)) (now (keys .exit)) (now (marks .exit)) (now (rows .exit)))
+            (loadColumns (now (numbers .entry)) (now (approved .entry)) (now (loads .entry)))) (r .answer)
+            ≡ does (lent self
+            (columns (now (statuses .entry)) (now (ids .entry)) (now (keys .entry)) (now (marks .entry)) (now (rows .entry)))
+            (loadColumns (now (numbers .entry)) (now (approved .entry)) (now (loads .entry))))
+            (file Entry.SevenDays (now (submitter .entry)) (csv (now (name .entry)) (now (body .entry)))) ⌝ }
     {
         let reading = read_file(name, body);
         let verdict = reading.verdict;
         if let Verdict::No(r) = verdict {
             return self.refused(r);
         }
-        let n = reading.notification;
-        let at = self.places(submitter, n);
-        let ps = n.powers;
-        let mut under = [0u8; 256];
-        let judged = self.judge(&mut under, &*keys, &*marks, &*rows, loads, at, ps);
-        let verdict = judged.verdict;
-        if let Verdict::No(r) = verdict {
-            return self.refused(r);
-        }
-        self.record_note(keys, marks, rows, &under, judged.count, at, ps)
+        self.file_note(
+            statuses,
+            ids,
+            keys,
+            marks,
+            rows,
+            numbers,
+            approved,
+            loads,
+            Entry::SevenDays,
+            submitter,
+            reading.notification,
+        )
     }
 }

@@ -5,6 +5,7 @@ ghost use Prim.Native.Nat.{ℕ};
 ghost use lib.ListN.{length};
 ghost use Rattle.ledger.specs.Asking.{askEngagement, askRecord, askHistory, historyIn};
 ghost use Rattle.answers.specs.Values.{saidEngaged, saidListed};
+ghost use Rattle.tables.specs.Tables.{LoadColumns, columns, loadColumns};
 ghost use Rattle.register.specs.View.{view};
 ghost use Rattle.register_c.specs.Faces.{verdictNumber, verdictPlace, flatShown};
 use answers::Said;
@@ -80,49 +81,75 @@ fn flat(x: Shown) -> RecordShown
 
 // Says an actor's own engagement at a step of a day.
 #[no_mangle]
-pub extern "C" fn register_engagement(
+pub extern "C" fn register_head_engagement(
     head: Head,
+    statuses: &[u8; 256],
     keys: &[u32; 256],
     marks: &[[u8; 4]; 256],
     rows: &[[u16; 50]; 256],
+    numbers: &[u32; 64],
     loads: &[[u16; 50]; 64],
     actor: &[u8],
     category: &[u8],
     day: u32,
     step: u32,
 ) -> Said
-    ensures { λ r. ⌜ r ≡ saidEngaged (askEngagement (view head (record { keys = now (keys .entry); marks = now (marks .entry); rows = now (rows .entry) }) (now (loads .entry))) (now (actor .entry)) (now (category .entry)) day step) ⌝ }
+    ensures { λ r. ⌜ ((ids approved : List ℕ) →
+        let cols = columns (now (statuses .entry)) ids (now (keys .entry)) (now (marks .entry)) (now (rows .entry)) in
+        let loaded = loadColumns (now (numbers .entry)) approved (now (loads .entry)) in
+        r ≡ saidEngaged
+        (askEngagement (view head cols loaded) (now (actor .entry)) (now (category .entry)) day step)) ⌝ }
 {
-    let answer = head.engagement(keys, marks, rows, loads, actor, category, day, step);
+    let answer = head.engagement(
+        statuses,
+        keys,
+        marks,
+        rows,
+        numbers,
+        loads,
+        actor,
+        category,
+        day,
+        step,
+    );
     of_engaged(answer)
 }
 
 // Shows a record by its id to an actor who is ceder or acquirer of it.
 #[no_mangle]
-pub extern "C" fn register_record(
+pub extern "C" fn register_head_record(
     head: Head,
+    statuses: &[u8; 256],
+    ids: &[u32; 256],
     keys: &[u32; 256],
     marks: &[[u8; 4]; 256],
     rows: &[[u16; 50]; 256],
     asker: &[u8],
     id: u32,
 ) -> RecordShown
-    ensures { λ r. ⌜ ((loads : List (List ℕ)) → r ≡ flatShown (askRecord (view head (record { keys = now (keys .entry); marks = now (marks .entry); rows = now (rows .entry) }) loads) (now (asker .entry)) id)) ⌝ }
+    ensures { λ r. ⌜ ((loads : LoadColumns) →
+        let cols = columns (now (statuses .entry)) (now (ids .entry))
+        (now (keys .entry)) (now (marks .entry)) (now (rows .entry)) in
+        r ≡ flatShown (askRecord (view head cols loads) (now (asker .entry)) id)) ⌝ }
 {
-    let answer = head.record(keys, marks, rows, asker, id);
+    let answer = head.record(statuses, ids, keys, marks, rows, asker, id);
     flat(answer)
 }
 
 // Puts the ids of all records that an actor is a party to into a lent buffer, and says how many they are.
 #[no_mangle]
-pub extern "C" fn register_history(
+pub extern "C" fn register_head_history(
     head: Head,
+    ids: &[u32; 256],
     keys: &[u32; 256],
     actor: &[u8],
-    ids: &mut [u32],
+    out: &mut [u32],
 ) -> Said
-    ensures { λ r. ⌜ ((marks rows loads : List (List ℕ)) → (r ≡ saidListed (askHistory (view head (record { keys = now (keys .entry); marks = marks; rows = rows }) loads) (now (actor .entry)) (length (now (ids .entry))))) × (now (ids .exit) ≡ historyIn (view head (record { keys = now (keys .entry); marks = marks; rows = rows }) loads) (now (actor .entry)) (now (ids .entry)))) ⌝ }
+    ensures { λ r. ⌜ ((statuses : List ℕ) (marks rows : List (List ℕ)) (loads : LoadColumns) →
+        let ledger = view head (columns statuses (now (ids .entry)) (now (keys .entry)) marks rows) loads in
+        (r ≡ saidListed (askHistory ledger (now (actor .entry)) (length (now (out .entry)))))
+        × (now (out .exit) ≡ historyIn ledger (now (actor .entry)) (now (out .entry)))) ⌝ }
 {
-    let answer = head.history(keys, actor, ids);
+    let answer = head.history(ids, keys, actor, out);
     of_listed(answer)
 }

@@ -118,7 +118,11 @@ pub extern "C" fn notification_read(name: &[u8], body: &[u8]) -> FileRead
 // notification that is refused leaves both as they are.
 #[no_mangle]
 pub extern "C" fn notification_write(n: FileRead, name: &mut [u8], body: &mut [u8]) -> FileWritten
-    ensures { λ r. ⌜ (r ≡ flatWritten (writeAnswer (noteOf n) (length (now (name .entry))) (length (now (body .entry))))) × (now (name .exit) ≡ written (writeVerdict (noteOf n) (length (now (name .entry))) (length (now (body .entry)))) (nameOf (noteOf n .key)) (now (name .entry))) × (now (body .exit) ≡ written (writeVerdict (noteOf n) (length (now (name .entry))) (length (now (body .entry)))) (bodyOf (noteOf n)) (now (body .entry))) ⌝ }
+    ensures { λ r. ⌜ (let note = noteOf n in
+        let verdict = writeVerdict note (length (now (name .entry))) (length (now (body .entry))) in
+        (r ≡ flatWritten (writeAnswer note (length (now (name .entry))) (length (now (body .entry)))))
+        × (now (name .exit) ≡ written verdict (nameOf (note .key)) (now (name .entry)))
+        × (now (body .exit) ≡ written verdict (bodyOf note) (now (body .entry)))) ⌝ }
 {
     let note = note_of(n);
     let answer = write_file(note, name, body);

@@ -9,6 +9,8 @@ mod pausing;
 mod running;
 mod trying;
 
+use register::Head;
+
 // The most bytes that are read at once.
 const BLOCK: usize = 32768;
 
@@ -23,17 +25,27 @@ const BODY: usize = 4097;
 pub extern "C" fn register_script() -> u32
     ensures { λ r. ⌜ r ≤ 2 ⌝ }
 {
+    let fresh = Head::fresh();
+    let mut statuses = fresh.statuses;
+    let mut ids = fresh.ids;
     let mut keys = [0u32; 256];
     let mut marks = [[0u8; 4]; 256];
     let mut rows = [[0u16; 50]; 256];
+    let mut numbers = [0u32; 64];
+    let mut approved = [0u16; 64];
     let mut loads = [[0u16; 50]; 64];
     let mut body = [0u8; BODY];
     let mut input = [0u8; BLOCK];
     let mut output = [0u8; WAITING];
     running::run(
+        fresh.head,
+        &mut statuses,
+        &mut ids,
         &mut keys,
         &mut marks,
         &mut rows,
+        &mut numbers,
+        &mut approved,
         &mut loads,
         &mut body,
         &mut input,

@@ -17,12 +17,17 @@ const UNWRITTEN: u32 = 1;
 // The input can't be read.
 const UNREAD: u32 = 2;
 
-// Answers standard input to its end. Answers are written where there is no room for more, and before more input is awaited. A proved
+// Answers standard input to its end, from a register on. Answers are written where there is no room for more, and before more input is awaited. A proved
 // loop has to end, and nothing says that input does: so the turns are counted down from a number that no run uses up.
 pub(crate) fn run(
+    head: Head,
+    statuses: &mut [u8; 256],
+    ids: &mut [u32; 256],
     keys: &mut [u32; 256],
     marks: &mut [[u8; 4]; 256],
     rows: &mut [[u16; 50]; 256],
+    numbers: &mut [u32; 64],
+    approved: &mut [u16; 64],
     loads: &mut [[u16; 50]; 64],
     body: &mut [u8],
     input: &mut [u8],
@@ -30,7 +35,7 @@ pub(crate) fn run(
 ) -> u32
     ensures { λ r. ⌜ r ≤ 2 ⌝ }
 {
-    let mut head = Head::fresh();
+    let mut head = head;
     let mut number: u64 = 0;
     let mut at: usize = 0;
     let mut end: usize = 0;
@@ -44,9 +49,13 @@ pub(crate) fn run(
         let n = file.length;
         let far = answer_lines(
             head,
+            statuses,
+            ids,
             keys,
             marks,
             rows,
+            numbers,
+            approved,
             loads,
             number,
             &input[..end],

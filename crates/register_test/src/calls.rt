@@ -35,11 +35,19 @@ fn to(head: Head, line: &[u8]) -> Reply {
 }
 
 // `load ACTOR CATEGORY DATE APPROVED COUNT POWER [STEP POWER]`: loads as many powers as the count says.
-fn load(head: Head, loads: &mut [[u16; 50]; 64], line: &[u8]) -> Reply {
+fn load(
+    head: Head,
+    numbers: &mut [u32; 64],
+    approved: &mut [u16; 64],
+    loads: &mut [[u16; 50]; 64],
+    line: &[u8],
+) -> Reply {
     let load = load_of(line);
     let actor = load.actor;
     let powers = load.powers;
     head.load(
+        numbers,
+        approved,
         loads,
         &actor,
         word(line, 2),
@@ -52,9 +60,13 @@ fn load(head: Head, loads: &mut [[u16; 50]; 64], line: &[u8]) -> Reply {
 // `file`, `named` and `body` (see `files`): files a name and a body.
 fn file(
     head: Head,
+    statuses: &mut [u8; 256],
+    ids: &mut [u32; 256],
     keys: &mut [u32; 256],
     marks: &mut [[u8; 4]; 256],
     rows: &mut [[u16; 50]; 256],
+    numbers: &[u32; 64],
+    approved: &[u16; 64],
     loads: &[[u16; 50]; 64],
     line: &[u8],
 ) -> Reply {
@@ -63,9 +75,13 @@ fn file(
     let name = file.name;
     let body = file.body;
     head.file(
+        statuses,
+        ids,
         keys,
         marks,
         rows,
+        numbers,
+        approved,
         loads,
         &submitter,
         part(&name, 0, file.name_length),
@@ -76,9 +92,13 @@ fn file(
 // The call that a line's first letter says.
 pub(crate) fn call(
     head: Head,
+    statuses: &mut [u8; 256],
+    ids: &mut [u32; 256],
     keys: &mut [u32; 256],
     marks: &mut [[u8; 4]; 256],
     rows: &mut [[u16; 50]; 256],
+    numbers: &mut [u32; 64],
+    approved: &mut [u16; 64],
     loads: &mut [[u16; 50]; 64],
     line: &[u8],
 ) -> Reply {
@@ -93,7 +113,18 @@ pub(crate) fn call(
         return to(head, line);
     }
     if kind == b'l' {
-        return load(head, loads, line);
+        return load(head, numbers, approved, loads, line);
     }
-    file(head, keys, marks, rows, &*loads, line)
+    file(
+        head,
+        statuses,
+        ids,
+        keys,
+        marks,
+        rows,
+        &*numbers,
+        &*approved,
+        &*loads,
+        line,
+    )
 }

@@ -16,18 +16,26 @@ use words::part;
 
 // Runs the scenarios of a file. What the lent columns hold at first means nothing.
 fn run(path: &[u8]) {
+    let mut statuses = [7u8; 256];
+    let mut ids = [7u32; 256];
     let mut keys = [7u32; 256];
     let mut marks = [[7u8; 4]; 256];
     let mut rows = [[7u16; 50]; 256];
+    let mut numbers = [7u32; 64];
+    let mut approved = [7u16; 64];
     let mut loads = [[7u16; 50]; 64];
     let mut text = io::large_buffer();
     let file = os::open_read(path);
     let n = io::read_full(file, &mut text);
     libc::close(file);
     run_lines(
+        &mut statuses,
+        &mut ids,
         &mut keys,
         &mut marks,
         &mut rows,
+        &mut numbers,
+        &mut approved,
         &mut loads,
         part(&text, 0, n),
     );

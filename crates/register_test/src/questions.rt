@@ -21,18 +21,22 @@ use register::Head;
 // The engagement of an actor, by the words for category, date and step.
 fn engaged(
     head: Head,
+    statuses: &[u8; 256],
     keys: &[u32; 256],
     marks: &[[u8; 4]; 256],
     rows: &[[u16; 50]; 256],
+    numbers: &[u32; 64],
     loads: &[[u16; 50]; 64],
     who: &[u8],
     words: &[u8],
 ) {
     let actor = code_of(who);
     let answer = head.engagement(
+        statuses,
         keys,
         marks,
         rows,
+        numbers,
         loads,
         &actor,
         word(words, 0),
@@ -114,13 +118,23 @@ fn put_record(shown: Shown) {
 // `record ASKER ID`.
 fn record(
     head: Head,
+    statuses: &[u8; 256],
+    ids: &[u32; 256],
     keys: &[u32; 256],
     marks: &[[u8; 4]; 256],
     rows: &[[u16; 50]; 256],
     line: &[u8],
 ) {
     let asker = code_of(word(line, 1));
-    let shown = head.record(keys, marks, rows, &asker, number(word(line, 2)));
+    let shown = head.record(
+        statuses,
+        ids,
+        keys,
+        marks,
+        rows,
+        &asker,
+        number(word(line, 2)),
+    );
     let verdict = shown.verdict;
     match verdict {
         Verdict::Pass => put_record(shown),
@@ -145,42 +159,70 @@ fn put_ids(ids: &[u32]) {
 }
 
 // An actor's history into a buffer, and what the buffer holds afterwards.
-fn history_into(head: Head, keys: &[u32; 256], actor: &[u8], ids: &mut [u32]) {
-    let listed = head.history(keys, actor, &mut *ids);
+fn history_into(head: Head, ids: &[u32; 256], keys: &[u32; 256], actor: &[u8], out: &mut [u32]) {
+    let listed = head.history(ids, keys, actor, &mut *out);
     put_count(listed);
     put(b",");
-    put_ids(&*ids);
+    put_ids(&*out);
 }
 
 // The same, into the first places of a buffer.
-fn history_within(head: Head, keys: &[u32; 256], actor: &[u8], ids: &mut [u32], n: u32) {
+fn history_within(
+    head: Head,
+    ids: &[u32; 256],
+    keys: &[u32; 256],
+    actor: &[u8],
+    out: &mut [u32],
+    n: u32,
+) {
     let room = n as usize;
-    if room <= ids.len() {
-        history_into(head, keys, actor, &mut ids[0..room]);
+    if room <= out.len() {
+        history_into(head, ids, keys, actor, &mut out[0..room]);
     }
 }
 
 // `history ACTOR ROOM`: into a buffer of so many places, each of which holds 999 before.
-fn history(head: Head, keys: &[u32; 256], line: &[u8]) {
-    let mut ids = [999u32; 256];
+fn history(head: Head, ids: &[u32; 256], keys: &[u32; 256], line: &[u8]) {
+    let mut out = [999u32; 256];
     let actor = code_of(word(line, 1));
-    history_within(head, keys, &actor, &mut ids, number(word(line, 2)));
+    history_within(head, ids, keys, &actor, &mut out, number(word(line, 2)));
 }
 
 // `stand ACTOR OTHER CATEGORY DATE STEP`: the engagements of two actors, and how many records there are.
 fn stand(
     head: Head,
+    statuses: &[u8; 256],
     keys: &[u32; 256],
     marks: &[[u8; 4]; 256],
     rows: &[[u16; 50]; 256],
+    numbers: &[u32; 64],
     loads: &[[u16; 50]; 64],
     line: &[u8],
 ) {
-    engaged(head, keys, marks, rows, loads, word(line, 1), rest(line, 3));
+    engaged(
+        head,
+        statuses,
+        keys,
+        marks,
+        rows,
+        numbers,
+        loads,
+        word(line, 1),
+        rest(line, 3),
+    );
     put(b", ");
-    engaged(head, keys, marks, rows, loads, word(line, 2), rest(line, 3));
-    let records = head.records;
-    put_with(b", records ", records.count);
+    engaged(
+        head,
+        statuses,
+        keys,
+        marks,
+        rows,
+        numbers,
+        loads,
+        word(line, 2),
+        rest(line, 3),
+    );
+    put_with(b", records ", head.records);
 }
 
 // What stands before an answer of a read-only call.
@@ -193,27 +235,40 @@ fn put_colon(kind: u8) {
 // The read-only call that a line's first letter says, if it is one; `engagement ACTOR CATEGORY DATE STEP` is.
 pub(crate) fn ask(
     head: Head,
+    statuses: &[u8; 256],
+    ids: &[u32; 256],
     keys: &[u32; 256],
     marks: &[[u8; 4]; 256],
     rows: &[[u16; 50]; 256],
+    numbers: &[u32; 64],
     loads: &[[u16; 50]; 64],
     line: &[u8],
 ) {
     let kind = byte_at(line, 0);
     put_colon(kind);
     if kind == b'e' {
-        engaged(head, keys, marks, rows, loads, word(line, 1), rest(line, 2));
+        engaged(
+            head,
+            statuses,
+            keys,
+            marks,
+            rows,
+            numbers,
+            loads,
+            word(line, 1),
+            rest(line, 2),
+        );
         return;
     }
     if kind == b'r' {
-        record(head, keys, marks, rows, line);
+        record(head, statuses, ids, keys, marks, rows, line);
         return;
     }
     if kind == b'h' {
-        history(head, keys, line);
+        history(head, ids, keys, line);
         return;
     }
     if kind == b's' {
-        stand(head, keys, marks, rows, loads, line);
+        stand(head, statuses, keys, marks, rows, numbers, loads, line);
     }
 }

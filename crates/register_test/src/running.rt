@@ -22,14 +22,29 @@ fn is_call(kind: u8) -> bool {
 // Makes a line's call and prints its answer. A line that asks, tells or is a title makes none.
 fn make_call(
     head: Head,
+    statuses: &mut [u8; 256],
+    ids: &mut [u32; 256],
     keys: &mut [u32; 256],
     marks: &mut [[u8; 4]; 256],
     rows: &mut [[u16; 50]; 256],
+    numbers: &mut [u32; 64],
+    approved: &mut [u16; 64],
     loads: &mut [[u16; 50]; 64],
     line: &[u8],
 ) -> Head {
     if is_call(byte_at(line, 0)) {
-        let reply = call(head, keys, marks, rows, loads, line);
+        let reply = call(
+            head,
+            statuses,
+            ids,
+            keys,
+            marks,
+            rows,
+            numbers,
+            approved,
+            loads,
+            line,
+        );
         let answer = reply.answer;
         put(b": ");
         put_answer(answer);
@@ -41,7 +56,8 @@ fn make_call(
 // A title begins a scenario, with a fresh register.
 fn begun(head: Head, line: &[u8]) -> Head {
     if byte_at(line, 0) == b'#' {
-        return Head::fresh();
+        let fresh = Head::fresh();
+        return fresh.head;
     }
     head
 }
@@ -49,35 +65,69 @@ fn begun(head: Head, line: &[u8]) -> Head {
 // Prints a line, and what its call answers.
 fn run_line(
     head: Head,
+    statuses: &mut [u8; 256],
+    ids: &mut [u32; 256],
     keys: &mut [u32; 256],
     marks: &mut [[u8; 4]; 256],
     rows: &mut [[u16; 50]; 256],
+    numbers: &mut [u32; 64],
+    approved: &mut [u16; 64],
     loads: &mut [[u16; 50]; 64],
     line: &[u8],
 ) -> Head {
     put(line);
     let now = begun(head, line);
-    ask(now, &*keys, &*marks, &*rows, &*loads, line);
-    make_call(now, keys, marks, rows, loads, line)
+    ask(
+        now,
+        &*statuses,
+        &*ids,
+        &*keys,
+        &*marks,
+        &*rows,
+        &*numbers,
+        &*loads,
+        line,
+    );
+    make_call(
+        now,
+        statuses,
+        ids,
+        keys,
+        marks,
+        rows,
+        numbers,
+        approved,
+        loads,
+        line,
+    )
 }
 
 // Runs a text's lines one after another, on columns that the caller lends.
 pub(crate) fn run_lines(
+    statuses: &mut [u8; 256],
+    ids: &mut [u32; 256],
     keys: &mut [u32; 256],
     marks: &mut [[u8; 4]; 256],
     rows: &mut [[u16; 50]; 256],
+    numbers: &mut [u32; 64],
+    approved: &mut [u16; 64],
     loads: &mut [[u16; 50]; 64],
     text: &[u8],
 ) {
-    let mut head = Head::fresh();
+    let fresh = Head::fresh();
+    let mut head = fresh.head;
     let n = lines_in(text);
     let mut k: u32 = 0;
     while k < n {
         let next = run_line(
             head,
+            &mut *statuses,
+            &mut *ids,
             &mut *keys,
             &mut *marks,
             &mut *rows,
+            &mut *numbers,
+            &mut *approved,
             &mut *loads,
             line_of(text, k),
         );

@@ -9,11 +9,12 @@ use Rattle.calendar.specs.Texts.{pairOf, dayOf}
 use Rattle.refusals.specs.declared.Refusal.the-variants.{Input, State}
 use Rattle.refusals.specs.declared.InputRefusal.the-variants.{Labels}
 use Rattle.refusals.specs.declared.StateRefusal.the-variants.{Back}
+use Rattle.ledger.specs.Call as Call
 use Rattle.ledger.specs.declared.Answer.the-variants.{Moved, Held, Filed, Refused}
 use Rattle.ledger.specs.declared.Engaged.the-variants.{Power}
 use Rattle.answers.specs.Values.{saidOf, saidEngaged, saidRefused}
 use Rattle.script.specs.Numbers.{isNumber, valueFrom, decimalIn}
-use Rattle.script.specs.Lines.{Asked, advance, enrolActor, enrolCategory, load, file, engagement, recordOf, unknown, fields, advanceIn, enrolIn, categoryIn, loadIn, fileIn, engagementIn, recordIn, byLetter, lineOf}
+use Rattle.script.specs.Lines.{Asked, calls, fileOf, engagement, recordOf, unknown, fields, advanceIn, enrolIn, categoryIn, loadIn, fileIn, engagementIn, recordIn, byLetter, lineOf}
 use Rattle.script.specs.Answers.{valueText, valuesText, saidText, answerLine}
 
 -- codes 17X100A100R000.. by their last two bytes, and the category 13120
@@ -31,15 +32,15 @@ sevens (suc n) = sevens n ++ 44 ∷ 55 ∷ []
 -- THE SAMPLE
 pub record Sample : Type 0 where
   -- `T,20210120,600`
-  pub line-1 : lineOf (84 ∷ 44 ∷ 50 ∷ 48 ∷ 50 ∷ 49 ∷ 48 ∷ 49 ∷ 50 ∷ 48 ∷ 44 ∷ 54 ∷ 48 ∷ 48 ∷ []) ≡ advance 7690 600
+  pub line-1 : lineOf (84 ∷ 44 ∷ 50 ∷ 48 ∷ 50 ∷ 49 ∷ 48 ∷ 49 ∷ 50 ∷ 48 ∷ 44 ∷ 54 ∷ 48 ∷ 48 ∷ []) ≡ calls (Call.advance 7690 600)
   -- `A,17X100A100R0000L,20210101,20211231`
-  pub line-2 : lineOf (65 ∷ 44 ∷ 49 ∷ 55 ∷ 88 ∷ 49 ∷ 48 ∷ 48 ∷ 65 ∷ 49 ∷ 48 ∷ 48 ∷ 82 ∷ 48 ∷ 48 ∷ 48 ∷ 48 ∷ 76 ∷ 44 ∷ 50 ∷ 48 ∷ 50 ∷ 49 ∷ 48 ∷ 49 ∷ 48 ∷ 49 ∷ 44 ∷ 50 ∷ 48 ∷ 50 ∷ 49 ∷ 49 ∷ 50 ∷ 51 ∷ 49 ∷ []) ≡ enrolActor (eic 48 76) 7671 8035
+  pub line-2 : lineOf (65 ∷ 44 ∷ 49 ∷ 55 ∷ 88 ∷ 49 ∷ 48 ∷ 48 ∷ 65 ∷ 49 ∷ 48 ∷ 48 ∷ 82 ∷ 48 ∷ 48 ∷ 48 ∷ 48 ∷ 76 ∷ 44 ∷ 50 ∷ 48 ∷ 50 ∷ 49 ∷ 48 ∷ 49 ∷ 48 ∷ 49 ∷ 44 ∷ 50 ∷ 48 ∷ 50 ∷ 49 ∷ 49 ∷ 50 ∷ 51 ∷ 49 ∷ []) ≡ calls (Call.enrolActor (eic 48 76) 7671 8035)
   -- `A,17X100A100R0001J,20210101,20211231`
-  pub line-3 : lineOf (65 ∷ 44 ∷ 49 ∷ 55 ∷ 88 ∷ 49 ∷ 48 ∷ 48 ∷ 65 ∷ 49 ∷ 48 ∷ 48 ∷ 82 ∷ 48 ∷ 48 ∷ 48 ∷ 49 ∷ 74 ∷ 44 ∷ 50 ∷ 48 ∷ 50 ∷ 49 ∷ 48 ∷ 49 ∷ 48 ∷ 49 ∷ 44 ∷ 50 ∷ 48 ∷ 50 ∷ 49 ∷ 49 ∷ 50 ∷ 51 ∷ 49 ∷ []) ≡ enrolActor (eic 49 74) 7671 8035
+  pub line-3 : lineOf (65 ∷ 44 ∷ 49 ∷ 55 ∷ 88 ∷ 49 ∷ 48 ∷ 48 ∷ 65 ∷ 49 ∷ 48 ∷ 48 ∷ 82 ∷ 48 ∷ 48 ∷ 48 ∷ 49 ∷ 74 ∷ 44 ∷ 50 ∷ 48 ∷ 50 ∷ 49 ∷ 48 ∷ 49 ∷ 48 ∷ 49 ∷ 44 ∷ 50 ∷ 48 ∷ 50 ∷ 49 ∷ 49 ∷ 50 ∷ 51 ∷ 49 ∷ []) ≡ calls (Call.enrolActor (eic 49 74) 7671 8035)
   -- `C,13120`
-  pub line-4 : lineOf (67 ∷ 44 ∷ 49 ∷ 51 ∷ 49 ∷ 50 ∷ 48 ∷ []) ≡ enrolCategory category
+  pub line-4 : lineOf (67 ∷ 44 ∷ 49 ∷ 51 ∷ 49 ∷ 50 ∷ 48 ∷ []) ≡ calls (Call.enrolCategory category)
   -- `T,20210120,599`
-  pub line-5 : lineOf (84 ∷ 44 ∷ 50 ∷ 48 ∷ 50 ∷ 49 ∷ 48 ∷ 49 ∷ 50 ∷ 48 ∷ 44 ∷ 53 ∷ 57 ∷ 57 ∷ []) ≡ advance 7690 599
+  pub line-5 : lineOf (84 ∷ 44 ∷ 50 ∷ 48 ∷ 50 ∷ 49 ∷ 48 ∷ 49 ∷ 50 ∷ 48 ∷ 44 ∷ 53 ∷ 57 ∷ 57 ∷ []) ≡ calls (Call.advance 7690 599)
   -- `E,17X100A100R0001J,13120,20210121,0`
   pub line-6 : lineOf (69 ∷ 44 ∷ 49 ∷ 55 ∷ 88 ∷ 49 ∷ 48 ∷ 48 ∷ 65 ∷ 49 ∷ 48 ∷ 48 ∷ 82 ∷ 48 ∷ 48 ∷ 48 ∷ 49 ∷ 74 ∷ 44 ∷ 49 ∷ 51 ∷ 49 ∷ 50 ∷ 48 ∷ 44 ∷ 50 ∷ 48 ∷ 50 ∷ 49 ∷ 48 ∷ 49 ∷ 50 ∷ 49 ∷ 44 ∷ 48 ∷ []) ≡ engagement (eic 49 74) category 7691 0
   -- `Z`
@@ -66,7 +67,7 @@ pub record Edge : Type 0 where
   -- `C`
   pub letter-alone : lineOf (67 ∷ []) ≡ unknown
   -- `C,`
-  pub empty-category : lineOf (67 ∷ 44 ∷ []) ≡ enrolCategory []
+  pub empty-category : lineOf (67 ∷ 44 ∷ []) ≡ calls (Call.enrolCategory [])
   -- `C,1,2`
   pub category-and-more : lineOf (67 ∷ 44 ∷ 49 ∷ 44 ∷ 50 ∷ []) ≡ unknown
   -- `R,,1`
@@ -96,21 +97,21 @@ pub record Edge : Type 0 where
   -- `T,2021012,0`
   pub short-date : lineOf (84 ∷ 44 ∷ 50 ∷ 48 ∷ 50 ∷ 49 ∷ 48 ∷ 49 ∷ 50 ∷ 44 ∷ 48 ∷ []) ≡ unknown
   -- `L,,,20000101,0,7`
-  pub empty-texts : lineOf (76 ∷ 44 ∷ 44 ∷ 44 ∷ 50 ∷ 48 ∷ 48 ∷ 48 ∷ 48 ∷ 49 ∷ 48 ∷ 49 ∷ 44 ∷ 48 ∷ 44 ∷ 55 ∷ []) ≡ load [] [] 0 0 (7 ∷ [])
+  pub empty-texts : lineOf (76 ∷ 44 ∷ 44 ∷ 44 ∷ 50 ∷ 48 ∷ 48 ∷ 48 ∷ 48 ∷ 49 ∷ 48 ∷ 49 ∷ 44 ∷ 48 ∷ 44 ∷ 55 ∷ []) ≡ calls (Call.load [] [] 0 0 (7 ∷ []))
   -- `L,,,20000101,9,7,99999`
-  pub two-powers : lineOf (76 ∷ 44 ∷ 44 ∷ 44 ∷ 50 ∷ 48 ∷ 48 ∷ 48 ∷ 48 ∷ 49 ∷ 48 ∷ 49 ∷ 44 ∷ 57 ∷ 44 ∷ 55 ∷ 44 ∷ 57 ∷ 57 ∷ 57 ∷ 57 ∷ 57 ∷ []) ≡ load [] [] 0 9 (7 ∷ 99999 ∷ [])
+  pub two-powers : lineOf (76 ∷ 44 ∷ 44 ∷ 44 ∷ 50 ∷ 48 ∷ 48 ∷ 48 ∷ 48 ∷ 49 ∷ 48 ∷ 49 ∷ 44 ∷ 57 ∷ 44 ∷ 55 ∷ 44 ∷ 57 ∷ 57 ∷ 57 ∷ 57 ∷ 57 ∷ []) ≡ calls (Call.load [] [] 0 9 (7 ∷ 99999 ∷ []))
   -- `L,,,20000101,9,7,`
   pub trailing-comma : lineOf (76 ∷ 44 ∷ 44 ∷ 44 ∷ 50 ∷ 48 ∷ 48 ∷ 48 ∷ 48 ∷ 49 ∷ 48 ∷ 49 ∷ 44 ∷ 57 ∷ 44 ∷ 55 ∷ 44 ∷ []) ≡ unknown
   -- `L,,,20000101,9`
   pub no-power : lineOf (76 ∷ 44 ∷ 44 ∷ 44 ∷ 50 ∷ 48 ∷ 48 ∷ 48 ∷ 48 ∷ 49 ∷ 48 ∷ 49 ∷ 44 ∷ 57 ∷ []) ≡ unknown
   -- `F,NUL,FFCR`
-  pub file : lineOf (70 ∷ 44 ∷ 0 ∷ 44 ∷ 255 ∷ 13 ∷ []) ≡ file (0 ∷ []) (255 ∷ 13 ∷ [])
+  pub file : lineOf (70 ∷ 44 ∷ 0 ∷ 44 ∷ 255 ∷ 13 ∷ []) ≡ fileOf (0 ∷ []) (255 ∷ 13 ∷ [])
   -- `F,a,b,c`
   pub file-and-more : lineOf (70 ∷ 44 ∷ 97 ∷ 44 ∷ 98 ∷ 44 ∷ 99 ∷ []) ≡ unknown
   -- 51 powers are 51 powers; 512 bytes are a line, and 513 are none: `C,` and a text of 510 or 511 bytes
-  pub powers-51 : lineOf (sevens 51) ≡ load [] [] 0 9 (replicate 51 7)
-  pub bytes-512 : lineOf (sevens 249) ≡ load [] [] 0 9 (replicate 249 7)
-  pub category-of-510 : lineOf (67 ∷ 44 ∷ replicate 510 49) ≡ enrolCategory (replicate 510 49)
+  pub powers-51 : lineOf (sevens 51) ≡ calls (Call.load [] [] 0 9 (replicate 51 7))
+  pub bytes-512 : lineOf (sevens 249) ≡ calls (Call.load [] [] 0 9 (replicate 249 7))
+  pub category-of-510 : lineOf (67 ∷ 44 ∷ replicate 510 49) ≡ calls (Call.enrolCategory (replicate 510 49))
   pub bytes-513 : lineOf (67 ∷ 44 ∷ replicate 511 49) ≡ unknown
   -- `10,ok,256,V,33`
   pub answer-filed : answerLine 10 (saidOf (Filed 256 86 33)) ≡ 49 ∷ 48 ∷ 44 ∷ 111 ∷ 107 ∷ 44 ∷ 50 ∷ 53 ∷ 54 ∷ 44 ∷ 86 ∷ 44 ∷ 51 ∷ 51 ∷ 10 ∷ []

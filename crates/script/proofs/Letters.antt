@@ -1,5 +1,5 @@
 -- The letter at the beginning of a line says of which kind it is.
-use mathlib.Core.Path.{_≡_, refl, sym, ap, _∙_}
+use mathlib.Core.Path.{_≡_, refl, sym, ap, _∙_, subst}
 use mathlib.Core.Bool.{Bool, true, false, cond}
 use mathlib.Core.List.{List, [], _∷_}
 use Prim.Native.Nat.{ℕ, zero, suc, _+_, _<_, _≤_}
@@ -7,20 +7,12 @@ use native.Mathlib.Omega.{arith}
 use lib.Dec.{eqb, leb}
 use lib.ListN.{length, getD, drop}
 use borrow.Author.Tests.{eqb-true, eqb-false, eq-eqb, ne-eqb, le-leb, lt-leb}
-use Rattle.lists.proofs.Tests.{true-false}
 use Rattle.notification.specs.Reading.{onto}
-use Rattle.script.specs.Lines.{Asked, unknown, known, field, lineMost, comma, fields, letterOf, byLetter, lineOf, lineBy, advanceIn, enrolIn, categoryIn, loadIn, fileIn, engagementIn, recordIn}
+use Rattle.script.specs.Lines.{Asked, unknown, known, field, lineMost, comma, fields, letterOf, byLetter, lineOf, advanceIn, enrolIn, categoryIn, loadIn, fileIn, engagementIn, recordIn}
+use Rattle.script.specs.Fields.{fieldsFrom}
 use Rattle.script.specs.Spans.{start, Read}
-use Rattle.script.specs.Walking.{fieldsFrom, Begins, ReadAs}
 use Rattle.script.specs.declared.reading.Line.{Line}
 use Rattle.script.proofs.Parting.{from-inside, fields-parted}
-
-pub read-none : (line powers : List ℕ) (r : Line) (a b : Asked) → b ≡ a → ReadAs line r a → Read line powers r powers b
-read-none line powers r a b e p =
-    record { says = p .says powers ∙ sym e; holds = rw (e, p .none); within = p .within }
-
-pub read-some : (line powers : List ℕ) (r : Line) (after : List ℕ) (a b : Asked) → b ≡ a → Read line powers r after a → Read line powers r after b
-read-some line powers r after a b e p = rw e p
 
 -- ---- no letter
 
@@ -85,6 +77,11 @@ pub line-with : (line : List ℕ) (b : ℕ) → 2 ≤ length line → length lin
     → lineOf line ≡ byLetter b (fieldsFrom line start)
 line-with line b h l e k = rw (← k) (line-letter line h l e)
 
+-- a line is read by what its letter says that its fields are
+pub read-letter : {line : List ℕ} {r : Line} {a : Asked} (b : ℕ) → 2 ≤ length line → length line ≤ lineMost → getD line 1 0 ≡ comma → getD line 0 0 ≡ b
+    → byLetter b (fieldsFrom line start) ≡ a → Read line r a → Read line r (lineOf line)
+read-letter {line} {r} b h l e k f w = subst (Read line r) (sym (line-with line b h l e k ∙ f)) w
+
 pub no-letter : (b : ℕ) (fs : List (List ℕ)) → (b ≡ 84 → ⊥) → (b ≡ 65 → ⊥) → (b ≡ 67 → ⊥) → (b ≡ 76 → ⊥) → (b ≡ 70 → ⊥) → (b ≡ 69 → ⊥) → (b ≡ 82 → ⊥)
     → unknown ≡ byLetter b fs
 unfolding byLetter
@@ -117,29 +114,3 @@ letter-e fs = refl
 pub letter-r : (fs : List (List ℕ)) → byLetter 82 fs ≡ recordIn fs
 unfolding byLetter
 letter-r fs = refl
-
--- ---- a line that begins with a letter, or counts as unknown
-
-module _ (line : List ℕ) (b : ℕ) where
-  pub by-none : unknown ≡ lineOf line → unknown ≡ lineBy b line
-  unfolding lineBy
-  by-none e = sym (rw (← e) (unknown-either (eqb (getD line 0 0) b)))
-
-  pub by-other : (getD line 0 0 ≡ b → ⊥) → unknown ≡ lineBy b line
-  unfolding lineBy
-  by-other ne = rw (ne-eqb (getD line 0 0) b ne)
-
-  pub by-fields : Begins line b → lineBy b line ≡ byLetter b (fieldsFrom line start)
-  unfolding lineBy
-  by-fields g = rw (eq-eqb (getD line 0 0) b (g .letter)) (line-with line b (g .reaches) (g .ends) (g .parted) (g .letter))
-
-  -- what a test tells that only a line that begins with the letter passes
-  abbrev Tells : Bool → Type 0
-  Tells t = (t ≡ true → Begins line b) × (t ≡ false → unknown ≡ lineBy b line)
-
-  pub tells-none : unknown ≡ lineOf line → Tells false
-  tells-none e = (λ t. true-false true refl (sym t), λ t. by-none e)
-
-  pub tells-letter : start ≤ length line → length line ≤ lineMost → getD line 1 0 ≡ comma → Tells (eqb (getD line 0 0) b)
-  tells-letter h l e =
-      (λ t. record { parted = e; letter = eqb-true (getD line 0 0) b t; reaches = h; ends = l }, λ t. by-other (eqb-false (getD line 0 0) b t))

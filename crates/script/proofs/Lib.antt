@@ -3,6 +3,7 @@ pub mod Examples
 pub mod Parting
 pub mod Numerals
 pub mod Powers
+pub mod Cuts
 pub mod LineKinds
 pub mod LoadLines
 pub mod Letters

@@ -6,24 +6,38 @@ use mathlib.Core.List.{List, [], _∷_}
 use Prim.Native.Nat.{ℕ, suc, _+_, _-_, _<_, _≤_}
 use native.Mathlib.Omega.{arith}
 use lib.Dec.{ltb}
-use lib.ListN.{length, take, drop, length-drop}
-use lib.Seq.{take-all}
+use lib.ListN.{length, take, drop}
 use borrow.Author.Tests.{lt-ltb, le-ltb}
 use Rattle.lists.specs.Searches.{placeOf}
-use Rattle.lists.proofs.Tests.{and-right}
+use Rattle.lists.proofs.Tests.{true-false, and-right}
 use Rattle.calendar.specs.Dates.{dayCount}
 use Rattle.script.specs.Numbers.{numberEnd, isNumber, valueOf, dayIn, isDay}
-use Rattle.script.specs.Lines.{Asked, unknown, powersOf, fields, advanceIn, enrolIn, categoryIn, fileIn, engagementIn, recordIn}
-use Rattle.script.specs.Spans.{cut, start, asked, Within}
-use Rattle.script.specs.Walking.{isComma, fieldsFrom, FieldEnd, numberIn, ReadAs}
+use Rattle.script.specs.Lines.{Asked, unknown, fields, advanceIn, enrolIn, categoryIn, fileIn, engagementIn, recordIn}
+use Rattle.script.specs.Fields.{fieldsFrom, numberIn}
+use Rattle.script.specs.Spans.{cut, start, namesFile, asked, Read}
+use Rattle.script.specs.Walking.{isComma, FieldEnd}
+use Rattle.script.specs.declared.reading.CallKind.the-variants.{Advance, EnrolActor, EnrolCategory}
+use Rattle.script.specs.declared.reading.Kind.{Kind}
+use Rattle.script.specs.declared.reading.Kind.the-variants.{Calls, Files, Engagement, RecordOf, Unknown}
 use Rattle.script.specs.declared.reading.Line.{Line}
-use Rattle.script.specs.declared.reading.Line.the-variants.{Advance, EnrolActor, EnrolCategory, File, Engagement, RecordOf, Unknown}
 use Rattle.script.proofs.Parting.{restAt, from-inside, from-past, fields-parted}
 use Rattle.script.proofs.Numerals.{number-test, number-value}
 
-pub unknown-as : (line : List ℕ) (a : Asked) → unknown ≡ a → ReadAs line Unknown a
+-- a line without powers
+abbrev pub plain : Kind → ℕ → ℕ → ℕ → ℕ → Line
+plain kind first second day n =
+    record { kind = kind; first = first; second = second; day = day; number = n; from = 0; count = 0 }
+
+abbrev pub noLine : Line
+noLine = plain Unknown 0 0 0 0
+
+-- a line that names no file
+pub read-as : (line : List ℕ) (r : Line) (a : Asked) → namesFile (r .kind) ≡ false → asked line r ≡ a → Read line r a
+read-as line r a e f = record { says = f; named = λ t. true-false (namesFile (r .kind)) t e }
+
+pub unknown-as : (line : List ℕ) (a : Asked) → unknown ≡ a → Read line noLine a
 unfolding asked
-unknown-as line a e = record { says = λ ps. e; none = ap powersOf (sym e); within = omega arith }
+unknown-as line a e = read-as line noLine a refl e
 
 -- the fields after one that ends before the end of the line, and after one that ends there
 pub some-after : (line : List ℕ) (end : ℕ) → end < length line
@@ -32,10 +46,6 @@ some-after line end h = from-inside line (end + 1) (omega arith) ∙ fields-part
 
 pub none-after : (line : List ℕ) (end : ℕ) → length line ≤ end → fieldsFrom line (end + 1) ≡ []
 none-after line end h = from-past line (end + 1) (omega arith)
-
--- the last field is the rest of the line
-pub cut-rest : (line : List ℕ) (from end : ℕ) → length line ≤ end → cut line from end ≡ drop from line
-cut-rest line from end h = take-all (end - from) (drop from line) (omega (arith, length-drop from line))
 
 -- ---- the tests of dates and numbers
 
@@ -48,25 +58,24 @@ number-passed s v q t = sym (number-value s (sym (number-test s) ∙ rw (← q) 
 -- ---- T
 
 module _ (line : List ℕ) (a : ℕ) (pa : FieldEnd line start a) where
-  pub advance-short : length line ≤ a → ReadAs line Unknown (advanceIn (fieldsFrom line start))
+  pub advance-short : length line ≤ a → Read line noLine (advanceIn (fieldsFrom line start))
   unfolding advanceIn
   advance-short h = unknown-as line _ (rw (pa .parts, none-after line a h))
 
   module _ (b : ℕ) (pb : FieldEnd line (a + 1) b) where
-    pub advance-long : b < length line → ReadAs line Unknown (advanceIn (fieldsFrom line start))
+    pub advance-long : b < length line → Read line noLine (advanceIn (fieldsFrom line start))
     unfolding advanceIn
     advance-long h = unknown-as line _ (rw (pa .parts, pb .parts, some-after line b h))
 
     module _ (h : length line ≤ b) (day v : ℕ) (p : day ≡ dayIn (cut line start a)) (q : v ≡ numberIn (cut line (a + 1) b)) where
-      pub advance-good : (ltb day dayCount && ltb v numberEnd) ≡ true → ReadAs line (Advance day v) (advanceIn (fieldsFrom line start))
+      pub advance-good : (ltb day dayCount && ltb v numberEnd) ≡ true → Read line (plain (Calls Advance) 0 0 day v) (advanceIn (fieldsFrom line start))
       unfolding advanceIn asked
       advance-good t =
           let e = number-passed (cut line (a + 1) b) v q (and-right (ltb day dayCount) (ltb v numberEnd) t) in
           let k = date-and-number (cut line start a) (cut line (a + 1) b) day v p q ∙ t in
-          let f : asked line (Advance day v) [] ≡ advanceIn (fieldsFrom line start) = rw (pa .parts, pb .parts, none-after line b h, k, e, p) in
-          record { says = λ ps. f; none = ap powersOf (sym f); within = omega (arith, pa .after, pa .inside) }
+          read-as line _ _ refl (rw (pa .parts, pb .parts, none-after line b h, k, e, p))
 
-      pub advance-bad : (ltb day dayCount && ltb v numberEnd) ≡ false → ReadAs line Unknown (advanceIn (fieldsFrom line start))
+      pub advance-bad : (ltb day dayCount && ltb v numberEnd) ≡ false → Read line noLine (advanceIn (fieldsFrom line start))
       unfolding advanceIn
       advance-bad t =
           let k = date-and-number (cut line start a) (cut line (a + 1) b) day v p q ∙ t in
@@ -75,29 +84,28 @@ module _ (line : List ℕ) (a : ℕ) (pa : FieldEnd line start a) where
 -- ---- A
 
 module _ (line : List ℕ) (a : ℕ) (pa : FieldEnd line start a) where
-  pub enrol-short : length line ≤ a → ReadAs line Unknown (enrolIn (fieldsFrom line start))
+  pub enrol-short : length line ≤ a → Read line noLine (enrolIn (fieldsFrom line start))
   unfolding enrolIn
   enrol-short h = unknown-as line _ (rw (pa .parts, none-after line a h))
 
   module _ (b : ℕ) (pb : FieldEnd line (a + 1) b) where
-    pub enrol-shorter : length line ≤ b → ReadAs line Unknown (enrolIn (fieldsFrom line start))
+    pub enrol-shorter : length line ≤ b → Read line noLine (enrolIn (fieldsFrom line start))
     unfolding enrolIn
     enrol-shorter h = unknown-as line _ (rw (pa .parts, pb .parts, none-after line b h))
 
     module _ (c : ℕ) (pc : FieldEnd line (b + 1) c) where
-      pub enrol-long : c < length line → ReadAs line Unknown (enrolIn (fieldsFrom line start))
+      pub enrol-long : c < length line → Read line noLine (enrolIn (fieldsFrom line start))
       unfolding enrolIn
       enrol-long h = unknown-as line _ (rw (pa .parts, pb .parts, pc .parts, some-after line c h))
 
       module _ (h : length line ≤ c) (first last : ℕ) (p : first ≡ dayIn (cut line (a + 1) b)) (q : last ≡ dayIn (cut line (b + 1) c)) where
-        pub enrol-good : a < length line → (ltb first dayCount && ltb last dayCount) ≡ true → ReadAs line (EnrolActor a first last) (enrolIn (fieldsFrom line start))
+        pub enrol-good : (ltb first dayCount && ltb last dayCount) ≡ true → Read line (plain (Calls EnrolActor) a 0 first last) (enrolIn (fieldsFrom line start))
         unfolding enrolIn asked
-        enrol-good i t =
+        enrol-good t =
             let k : (isDay (cut line (a + 1) b) && isDay (cut line (b + 1) c)) ≡ true = rw (← p, ← q) t in
-            let f : (ps : List ℕ) → asked line (EnrolActor a first last) ps ≡ enrolIn (fieldsFrom line start) = λ ps. rw (pa .parts, pb .parts, pc .parts, none-after line c h, k, p, q) in
-            record { says = f; none = ap powersOf (sym (f [])); within = (pa .after, i) }
+            read-as line _ _ refl (rw (pa .parts, pb .parts, pc .parts, none-after line c h, k, p, q))
 
-        pub enrol-bad : (ltb first dayCount && ltb last dayCount) ≡ false → ReadAs line Unknown (enrolIn (fieldsFrom line start))
+        pub enrol-bad : (ltb first dayCount && ltb last dayCount) ≡ false → Read line noLine (enrolIn (fieldsFrom line start))
         unfolding enrolIn
         enrol-bad t =
             let k : (isDay (cut line (a + 1) b) && isDay (cut line (b + 1) c)) ≡ false = rw (← p, ← q) t in
@@ -106,56 +114,52 @@ module _ (line : List ℕ) (a : ℕ) (pa : FieldEnd line start a) where
 -- ---- C
 
 module _ (line : List ℕ) (a : ℕ) (pa : FieldEnd line start a) where
-  pub category-long : a < length line → ReadAs line Unknown (categoryIn (fieldsFrom line start))
+  pub category-long : a < length line → Read line noLine (categoryIn (fieldsFrom line start))
   unfolding categoryIn
   category-long h = unknown-as line _ (rw (pa .parts, some-after line a h))
 
-  pub category-good : length line ≤ a → ReadAs line EnrolCategory (categoryIn (fieldsFrom line start))
+  pub category-good : length line ≤ a → Read line (plain (Calls EnrolCategory) a 0 0 0) (categoryIn (fieldsFrom line start))
   unfolding categoryIn asked
-  category-good h =
-      let f : (ps : List ℕ) → asked line EnrolCategory ps ≡ categoryIn (fieldsFrom line start) = λ ps. rw (pa .parts, none-after line a h, cut-rest line start a h) in
-      record { says = f; none = ap powersOf (sym (f [])); within = omega (arith, pa .after, pa .inside) }
+  category-good h = read-as line _ _ refl (rw (pa .parts, none-after line a h))
 
 -- ---- F
 
 module _ (line : List ℕ) (a : ℕ) (pa : FieldEnd line start a) where
-  pub file-short : length line ≤ a → ReadAs line Unknown (fileIn (fieldsFrom line start))
+  pub file-short : length line ≤ a → Read line noLine (fileIn (fieldsFrom line start))
   unfolding fileIn
   file-short h = unknown-as line _ (rw (pa .parts, none-after line a h))
 
   module _ (b : ℕ) (pb : FieldEnd line (a + 1) b) where
-    pub file-long : b < length line → ReadAs line Unknown (fileIn (fieldsFrom line start))
+    pub file-long : b < length line → Read line noLine (fileIn (fieldsFrom line start))
     unfolding fileIn
     file-long h = unknown-as line _ (rw (pa .parts, pb .parts, some-after line b h))
 
-    pub file-good : a < length line → length line ≤ b → ReadAs line (File a) (fileIn (fieldsFrom line start))
+    pub file-good : a < length line → length line ≤ b → Read line (plain Files a b 0 0) (fileIn (fieldsFrom line start))
     unfolding fileIn asked
     file-good i h =
-        let f : (ps : List ℕ) → asked line (File a) ps ≡ fileIn (fieldsFrom line start) = λ ps. rw (pa .parts, pb .parts, none-after line b h, cut-rest line (a + 1) b h) in
-        record { says = f; none = ap powersOf (sym (f [])); within = (pa .after, i) }
+        record { says = rw (pa .parts, pb .parts, none-after line b h); named = λ t. (i, omega (arith, h, pb .inside)) }
 
 -- ---- R
 
 module _ (line : List ℕ) (a : ℕ) (pa : FieldEnd line start a) where
-  pub record-short : length line ≤ a → ReadAs line Unknown (recordIn (fieldsFrom line start))
+  pub record-short : length line ≤ a → Read line noLine (recordIn (fieldsFrom line start))
   unfolding recordIn
   record-short h = unknown-as line _ (rw (pa .parts, none-after line a h))
 
   module _ (b : ℕ) (pb : FieldEnd line (a + 1) b) where
-    pub record-long : b < length line → ReadAs line Unknown (recordIn (fieldsFrom line start))
+    pub record-long : b < length line → Read line noLine (recordIn (fieldsFrom line start))
     unfolding recordIn
     record-long h = unknown-as line _ (rw (pa .parts, pb .parts, some-after line b h))
 
     module _ (h : length line ≤ b) (v : ℕ) (q : v ≡ numberIn (cut line (a + 1) b)) where
-      pub record-good : a < length line → v < numberEnd → ReadAs line (RecordOf a v) (recordIn (fieldsFrom line start))
+      pub record-good : v < numberEnd → Read line (plain RecordOf a 0 0 v) (recordIn (fieldsFrom line start))
       unfolding recordIn asked
-      record-good i t =
+      record-good t =
           let e = number-passed (cut line (a + 1) b) v q (lt-ltb v numberEnd t) in
           let k : isNumber (cut line (a + 1) b) ≡ true = sym (number-test (cut line (a + 1) b)) ∙ rw (← q) (lt-ltb v numberEnd t) in
-          let f : (ps : List ℕ) → asked line (RecordOf a v) ps ≡ recordIn (fieldsFrom line start) = λ ps. rw (pa .parts, pb .parts, none-after line b h, k, e) in
-          record { says = f; none = ap powersOf (sym (f [])); within = (pa .after, i) }
+          read-as line _ _ refl (rw (pa .parts, pb .parts, none-after line b h, k, e))
 
-      pub record-bad : numberEnd ≤ v → ReadAs line Unknown (recordIn (fieldsFrom line start))
+      pub record-bad : numberEnd ≤ v → Read line noLine (recordIn (fieldsFrom line start))
       unfolding recordIn
       record-bad t =
           let k : isNumber (cut line (a + 1) b) ≡ false = sym (number-test (cut line (a + 1) b)) ∙ rw (← q) (le-ltb v numberEnd t) in
@@ -164,36 +168,34 @@ module _ (line : List ℕ) (a : ℕ) (pa : FieldEnd line start a) where
 -- ---- E
 
 module _ (line : List ℕ) (a : ℕ) (pa : FieldEnd line start a) where
-  pub engagement-one : length line ≤ a → ReadAs line Unknown (engagementIn (fieldsFrom line start))
+  pub engagement-one : length line ≤ a → Read line noLine (engagementIn (fieldsFrom line start))
   unfolding engagementIn
   engagement-one h = unknown-as line _ (rw (pa .parts, none-after line a h))
 
   module _ (b : ℕ) (pb : FieldEnd line (a + 1) b) where
-    pub engagement-two : length line ≤ b → ReadAs line Unknown (engagementIn (fieldsFrom line start))
+    pub engagement-two : length line ≤ b → Read line noLine (engagementIn (fieldsFrom line start))
     unfolding engagementIn
     engagement-two h = unknown-as line _ (rw (pa .parts, pb .parts, none-after line b h))
 
     module _ (c : ℕ) (pc : FieldEnd line (b + 1) c) where
-      pub engagement-three : length line ≤ c → ReadAs line Unknown (engagementIn (fieldsFrom line start))
+      pub engagement-three : length line ≤ c → Read line noLine (engagementIn (fieldsFrom line start))
       unfolding engagementIn
       engagement-three h = unknown-as line _ (rw (pa .parts, pb .parts, pc .parts, none-after line c h))
 
       module _ (d : ℕ) (pd : FieldEnd line (c + 1) d) where
-        pub engagement-long : d < length line → ReadAs line Unknown (engagementIn (fieldsFrom line start))
+        pub engagement-long : d < length line → Read line noLine (engagementIn (fieldsFrom line start))
         unfolding engagementIn
         engagement-long h = unknown-as line _ (rw (pa .parts, pb .parts, pc .parts, pd .parts, some-after line d h))
 
         module _ (h : length line ≤ d) (day v : ℕ) (p : day ≡ dayIn (cut line (b + 1) c)) (q : v ≡ numberIn (cut line (c + 1) d)) where
-          pub engagement-good : b < length line → (ltb day dayCount && ltb v numberEnd) ≡ true
-              → ReadAs line (Engagement a b day v) (engagementIn (fieldsFrom line start))
+          pub engagement-good : (ltb day dayCount && ltb v numberEnd) ≡ true → Read line (plain Engagement a b day v) (engagementIn (fieldsFrom line start))
           unfolding engagementIn asked
-          engagement-good i t =
+          engagement-good t =
               let e = number-passed (cut line (c + 1) d) v q (and-right (ltb day dayCount) (ltb v numberEnd) t) in
               let k = date-and-number (cut line (b + 1) c) (cut line (c + 1) d) day v p q ∙ t in
-              let f : (ps : List ℕ) → asked line (Engagement a b day v) ps ≡ engagementIn (fieldsFrom line start) = λ ps. rw (pa .parts, pb .parts, pc .parts, pd .parts, none-after line d h, k, e, p) in
-              record { says = f; none = ap powersOf (sym (f [])); within = (pa .after, omega (arith, pb .after), i) }
+              read-as line _ _ refl (rw (pa .parts, pb .parts, pc .parts, pd .parts, none-after line d h, k, e, p))
 
-          pub engagement-bad : (ltb day dayCount && ltb v numberEnd) ≡ false → ReadAs line Unknown (engagementIn (fieldsFrom line start))
+          pub engagement-bad : (ltb day dayCount && ltb v numberEnd) ≡ false → Read line noLine (engagementIn (fieldsFrom line start))
           unfolding engagementIn
           engagement-bad t =
               let k = date-and-number (cut line (b + 1) c) (cut line (c + 1) d) day v p q ∙ t in

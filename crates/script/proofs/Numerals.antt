@@ -14,7 +14,7 @@ use Rattle.lists.specs.Searches.{every}
 use Rattle.lists.proofs.Tests.{by-test, and-left, and-right}
 use Rattle.calendar.specs.Texts.{digit}
 use Rattle.script.specs.Numbers.{mostDigits, numberEnd, needed, isNumber, valueFrom, valueOf}
-use Rattle.script.specs.Walking.{numberIn}
+use Rattle.script.specs.Fields.{numberIn}
 
 -- ---- no number
 

@@ -13,8 +13,9 @@ use Rattle.lists.proofs.Tests.{by-test}
 use Rattle.lists.proofs.Places.{place-here, place-past, place-end, place-later}
 use Rattle.notification.specs.Reading.{onto}
 use Rattle.script.specs.Lines.{comma, fields}
+use Rattle.script.specs.Fields.{fieldsFrom}
 use Rattle.script.specs.Spans.{cut}
-use Rattle.script.specs.Walking.{isComma, fieldsFrom, FieldEnd}
+use Rattle.script.specs.Walking.{isComma, FieldEnd}
 
 -- the fields after the one that ends at the k-th byte
 abbrev pub restAt : List ℕ → ℕ → List (List ℕ)

@@ -1,18 +1,21 @@
--- The numbers at the end of a line: counted field by field, and put into places one after another.
-use mathlib.Core.Path.{_≡_, refl, sym, ap, _∙_}
+-- The numbers at the end of a line: counted field by field, and taken one after another.
+use mathlib.Core.Path.{_≡_, refl, sym, ap, ap₂, _∙_}
 use mathlib.Core.Bool.{Bool, true, false, cond, _&&_}
-use mathlib.Core.List.{List, [], _∷_, map}
-use Prim.Native.Nat.{ℕ, zero, suc, _+_, _-_, _*_, _<_, _≤_}
+use mathlib.Core.List.{List, [], _∷_, _++_, map, append-nil, append-assoc}
+use Prim.Native.Nat.{ℕ, suc, _+_, _-_, _*_, _<_, _≤_, min}
 use native.Mathlib.Numerals.{add-one}
 use native.Mathlib.Omega.{arith}
-use lib.Dec.{ltb}
-use lib.ListN.{length, getD, set, take, drop, length-take, length-set, drop-of-length-le}
-use lib.Seq.{sets, drop-cons, getD-take, length-take-le}
-use borrow.Author.Tests.{ltb-true, lt-ltb, le-ltb}
+use lib.Dec.{leb, ltb}
+use lib.ListN.{length, set, take, drop, length-take, length-set}
+use lib.Seq.{take-nil, take-suc-set}
+use borrow.Author.Tests.{lt-ltb, le-ltb, ltb-true, ltb-false, leb-true, leb-false}
 use Rattle.lists.specs.Searches.{every}
+use Rattle.lists.proofs.Tests.{by-test, and-left, and-right, right-false}
 use Rattle.script.specs.Numbers.{numberEnd, isNumber, valueOf}
-use Rattle.script.specs.Spans.{cut}
-use Rattle.script.specs.Walking.{fieldsFrom, FieldEnd, numberIn, countIn}
+use Rattle.script.specs.Fields.{fieldsFrom, numberIn}
+use Rattle.script.specs.Spans.{cut, powerPlaces, powersOf}
+use Rattle.script.specs.Walking.{FieldEnd, countIn}
+use Rattle.script.specs.declared.reading.Line.{Line}
 use Rattle.script.proofs.Parting.{from-past}
 use Rattle.script.proofs.Numerals.{number-parts, number-value, number-test}
 
@@ -70,38 +73,50 @@ count-some fs h = go (every isNumber fs) refl h
     go true e h = (e, rw e)
     go false e h = absurd (omega arith)
 
--- ---- put into places: what the rest of the fields will put there is what all of them put
+-- ---- the numbers themselves
 
-pub record Filled (line : List ℕ) (from : ℕ) (before : List ℕ) (at k : ℕ) (now : List ℕ) : Type 0 where
-  pub same-length : length now ≡ length before
-  pub holds : sets now k (map valueOf (fieldsFrom line at)) ≡ sets before 0 (map valueOf (fieldsFrom line from))
+pub numbers-values : (fs : List (List ℕ)) → every isNumber fs ≡ true → map numberIn fs ≡ map valueOf fs
+numbers-values [] e = refl
+numbers-values (f ∷ fs) e =
+    ap₂ _∷_ (number-value f (and-left (isNumber f) (every isNumber fs) e)) (numbers-values fs (and-right (isNumber f) (every isNumber fs) e))
 
-pub filled-more : (line : List ℕ) (from : ℕ) (before : List ℕ) (at k : ℕ) (now : List ℕ) (end : ℕ) → Filled line from before at k now → FieldEnd line at end →
-    (v : ℕ) → v ≡ numberIn (cut line at end) → v < numberEnd → Filled line from before (end + 1) (k + 1) (set now k v)
-filled-more line from before at k now end c f w q l =
-    let h = rw q at l in
-    let n : isNumber (cut line at end) ≡ true = sym (number-test (cut line at end)) ∙ lt-ltb (numberIn (cut line at end)) numberEnd h in
-    let v = number-value (cut line at end) n in
-    record {
-      same-length = length-set now k w ∙ c .same-length;
-      holds = rw (q, v, add-one k) (rw (f .parts) at (c .holds));
-    }
+-- those that are put and those that the fields from here on give are all of them, of which m are wanted
+pub record Taking (line : List ℕ) (from m at count : ℕ) (numbers : List ℕ) : Type 0 where
+  pub few : count ≤ m
+  pub most : m ≤ powerPlaces
+  pub places : length numbers ≡ powerPlaces
+  pub holds : take count numbers ++ take (m - count) (map numberIn (fieldsFrom line at)) ≡ take m (map numberIn (fieldsFrom line from))
 
-pub filled-all : (line : List ℕ) (from : ℕ) (before : List ℕ) (at k : ℕ) (now : List ℕ) → length line < at → Filled line from before at k now
-    → now ≡ sets before 0 (map valueOf (fieldsFrom line from))
-filled-all line from before at k now h c = rw (from-past line at h) at (c .holds)
+pub taking-none : (line : List ℕ) (from count m : ℕ) (numbers : List ℕ) → m ≡ min count powerPlaces → length numbers ≡ powerPlaces → Taking line from m from 0 numbers
+taking-none line from count m numbers e h =
+    let z : m - 0 ≡ m = omega arith in
+    record { few = omega arith; most = omega (arith, e); places = h; holds = rw z refl }
 
--- ---- the first numbers put into other places, one after another
+module _ {line : List ℕ} {from m at count : ℕ} {numbers : List ℕ} (t : Taking line from m at count numbers) where
+  pub taking-goes : (ltb count m && leb at (length line)) ≡ true → (count < m) × (at ≤ length line)
+  taking-goes e =
+      (ltb-true count m (and-left (ltb count m) (leb at (length line)) e), leb-true at (length line) (and-right (ltb count m) (leb at (length line)) e))
 
-pub put-more : (now ns : List ℕ) (count k : ℕ) → count ≤ length ns → k < count
-    → sets now k (drop k (take count ns)) ≡ sets (set now k (getD ns k 0)) (k + 1) (drop (k + 1) (take count ns))
-put-more now ns count k h l =
-    let t = length-take-le count ns h in
-    let d = drop-cons (take count ns) k 0 (omega arith) in
-    rw (d, getD-take count ns k 0 l, add-one k)
+  pub taking-more : {end v : ℕ} → count < m → FieldEnd line at end → v ≡ numberIn (cut line at end) → Taking line from m (end + 1) (count + 1) (set numbers count v)
+  taking-more {end} {v} h f q =
+      let s : m - count ≡ suc (m - (count + 1)) = omega arith in
+      let k : count < length numbers = omega (arith, t .places, t .most) in
+      record {
+        few = omega arith;
+        most = t .most;
+        places = length-set numbers count _ ∙ t .places;
+        holds = rw (add-one count, take-suc-set numbers count v k, append-assoc, q) (rw (f .parts, s, add-one count) at (t .holds));
+      }
 
-pub put-all : (now ns : List ℕ) (count k : ℕ) → count ≤ length ns → count ≤ k → sets now k (drop k (take count ns)) ≡ now
-put-all now ns count k h l =
-    let t = length-take-le count ns h in
-    let e : length (take count ns) ≤ k = omega arith in
-    rw (drop-of-length-le (take count ns) e)
+  pub taking-all : (ltb count m && leb at (length line)) ≡ false → take count numbers ≡ take m (map numberIn (fieldsFrom line from))
+  taking-all e =
+      sym (append-nil (take count numbers))
+      ∙ (ap (λ (xs : List ℕ). take count numbers ++ xs)
+      (by-test (ltb count m)
+      (λ c. let p = from-past line at (leb-false at (length line) (right-false (ltb count m) (leb at (length line)) e c)) in rw p (sym (take-nil (m - count))))
+      (λ c. let z : m - count ≡ 0 = omega (arith, ltb-false count m c) in rw z refl))
+      ∙ t .holds)
+
+pub powers-taken : (line : List ℕ) (r : Line) {m : ℕ} → m ≡ min (r .count) powerPlaces → take m (map numberIn (fieldsFrom line (r .from))) ≡ powersOf line r
+unfolding powersOf
+powers-taken line r e = rw e refl

@@ -2,5 +2,6 @@
 pub mod Numbers
 pub mod Lines
 pub mod Answers
+pub mod Fields
 pub mod Spans
 pub mod Walking

@@ -3,21 +3,25 @@ use mathlib.Core.Bool.{Bool, cond, _&&_}
 use mathlib.Core.List.{List, [], _∷_, map}
 use Prim.Native.Nat.{ℕ}
 use lib.Dec.{leb, eqb}
-use lib.ListN.{length, getD}
+use lib.ListN.{length}
 use Rattle.lists.specs.Searches.{every}
 use Rattle.notification.specs.Reading.{onto}
+use Rattle.ledger.specs.Call as Call
+use Rattle.ledger.specs.declared.Entry.the-variants.{SevenDays}
 use Rattle.script.specs.Numbers.{isNumber, valueOf, isDay, dayIn}
 
--- the calls that lines ask for; a line of no known form, or over its length, is unknown
+-- what lines ask: a call of demand 3's list, a filing, whose body is found under the name, an engagement or a record; a line of no known
+-- form, or over its length, is unknown
 pub data Asked : Type 0 where
-  advance : (day minute : ℕ) → Asked
-  enrolActor : (code : List ℕ) → (first last : ℕ) → Asked
-  enrolCategory : (text : List ℕ) → Asked
-  load : (actor category : List ℕ) → (day approved : ℕ) → (powers : List ℕ) → Asked
-  file : (submitter name : List ℕ) → Asked
+  calls : Call.Call → Asked
+  fileOf : (submitter name : List ℕ) → Asked
   engagement : (actor category : List ℕ) → (day step : ℕ) → Asked
   recordOf : (asker : List ℕ) → (id : ℕ) → Asked
   unknown : Asked
+
+-- "F .. (the body is the file of that name)": the call of a line that files, once its body is found
+abbrev pub filing : (submitter name body : List ℕ) → Call.Call
+filing submitter name body = Call.file SevenDays submitter (Call.csv name body)
 
 -- "lines of at most 512 bytes"
 abbrev pub lineMost : ℕ
@@ -50,27 +54,28 @@ more f (x ∷ fs) = f (x ∷ fs)
 -- `T,date,minute`
 unfoldable pub advanceIn : List (List ℕ) → Asked
 advanceIn =
-    field (λ date. field (λ minute. end (known (isDay date && isNumber minute) (advance (dayIn date) (valueOf minute)))))
+    field (λ date. field (λ minute. end (known (isDay date && isNumber minute) (calls (Call.advance (dayIn date) (valueOf minute))))))
 
 -- `A,code,first,last`
 unfoldable pub enrolIn : List (List ℕ) → Asked
 enrolIn =
-    field (λ code. field (λ first. field (λ last. end (known (isDay first && isDay last) (enrolActor code (dayIn first) (dayIn last))))))
+    field (λ code. field (λ first. field (λ last. end
+    (known (isDay first && isDay last) (calls (Call.enrolActor code (dayIn first) (dayIn last)))))))
 
 -- `C,category`
 unfoldable pub categoryIn : List (List ℕ) → Asked
-categoryIn = field (λ text. end (enrolCategory text))
+categoryIn = field (λ text. end (calls (Call.enrolCategory text)))
 
 -- `L,actor,category,date,approved,` then one power or more
 unfoldable pub loadIn : List (List ℕ) → Asked
 loadIn =
     field (λ actor. field (λ category. field (λ date. field (λ approved. more (λ powers.
     known (isDay date && isNumber approved && every isNumber powers)
-    (load actor category (dayIn date) (valueOf approved) (map valueOf powers)))))))
+    (calls (Call.load actor category (dayIn date) (valueOf approved) (map valueOf powers))))))))
 
 -- `F,submitter,name`
 unfoldable pub fileIn : List (List ℕ) → Asked
-fileIn = field (λ submitter. field (λ name. end (file submitter name)))
+fileIn = field (λ submitter. field (λ name. end (fileOf submitter name)))
 
 -- `E,actor,category,date,step`
 unfoldable pub engagementIn : List (List ℕ) → Asked
@@ -102,26 +107,3 @@ byLetter b fs =
 -- WHAT A LINE ASKS
 unfoldable pub lineOf : List ℕ → Asked
 lineOf line = known (leb (length line) lineMost) (field (λ letter. byLetter (letterOf letter)) (fields line))
-
--- a line that begins with a letter; any other counts as unknown
-unfoldable pub lineBy : ℕ → List ℕ → Asked
-lineBy b line = cond (eqb (getD line 0 0) b) (lineOf line) unknown
-
--- a line that begins with E
-abbrev pub engagementOf : List ℕ → Asked
-engagementOf line = lineBy 69 line
-
--- a line that begins with F
-abbrev pub fileOf : List ℕ → Asked
-fileOf line = lineBy 70 line
-
--- the powers of a load that a line asks for
-abbrev pub powersOf : Asked → List ℕ
-powersOf (advance day minute) = []
-powersOf (enrolActor code first last) = []
-powersOf (enrolCategory text) = []
-powersOf (load actor category day approved powers) = powers
-powersOf (file submitter name) = []
-powersOf (engagement actor category day step) = []
-powersOf (recordOf asker id) = []
-powersOf unknown = []

@@ -1,12 +1,17 @@
--- A line as it is read: its texts are spans of the line, and its powers stand in lent places.
+-- A line as it is read: its texts are spans of the line, and its powers are the fields from a place on.
 use mathlib.Core.Path.{_≡_}
-use mathlib.Core.List.{List}
-use Prim.Native.Nat.{ℕ, _+_, _-_, _≤_, _<_}
+use mathlib.Core.Bool.{Bool, true, false}
+use mathlib.Core.List.{List, map}
+use Prim.Native.Nat.{ℕ, _+_, _-_, _<_, min}
 use lib.ListN.{length, take, drop}
-use lib.Seq.{sets}
-use Rattle.script.specs.Lines.{Asked, advance, enrolActor, enrolCategory, load, file, engagement, recordOf, unknown, powersOf}
+use Rattle.ledger.specs.Call as Call
+use Rattle.script.specs.Fields.{fieldsFrom, numberIn}
+use Rattle.script.specs.Lines.{Asked, calls, fileOf, engagement, recordOf, unknown}
+use Rattle.script.specs.declared.reading.CallKind.{CallKind}
+use Rattle.script.specs.declared.reading.CallKind.the-variants.{Advance, EnrolActor, EnrolCategory, Load}
+use Rattle.script.specs.declared.reading.Kind.{Kind}
+use Rattle.script.specs.declared.reading.Kind.the-variants.{Calls, Files, Engagement, RecordOf, Unknown}
 use Rattle.script.specs.declared.reading.Line.{Line}
-use Rattle.script.specs.declared.reading.Line.the-variants.{Advance, EnrolActor, EnrolCategory, Load, File, Engagement, RecordOf, Unknown}
 
 -- the span of a line from a place to before another
 abbrev pub cut : List ℕ → ℕ → ℕ → List ℕ
@@ -16,34 +21,49 @@ cut line from to = take (to - from) (drop from line)
 abbrev pub start : ℕ
 start = 2
 
--- WHAT A LINE READ SAYS: its texts are cut out of the line, each after the comma that ends the one before it, and its powers are the
--- first of the powers' places
-unfoldable pub asked : List ℕ → Line → List ℕ → Asked
-asked line (Advance day minute) powers = advance day minute
-asked line (EnrolActor code first last) powers = enrolActor (cut line start code) first last
-asked line EnrolCategory powers = enrolCategory (drop start line)
-asked line (Load actor category day approved count) powers =
-    load (cut line start actor) (cut line (actor + 1) category) day approved (take count powers)
-asked line (File submitter) powers = file (cut line start submitter) (drop (submitter + 1) line)
-asked line (Engagement actor category day step) powers =
-    engagement (cut line start actor) (cut line (actor + 1) category) day step
-asked line (RecordOf asker id) powers = recordOf (cut line start asker) id
-asked line Unknown powers = unknown
+-- a line's two texts: the first, and the one after the comma that ends it
+abbrev pub firstText : List ℕ → Line → List ℕ
+firstText line r = cut line start (r .first)
 
--- the spans lie in a line of n bytes, one after the other, and the powers in their 256 places
-abbrev pub Within : ℕ → Line → Type 0
-Within n (Advance day minute) = start ≤ n
-Within n (EnrolActor code first last) = (start ≤ code) × (code < n)
-Within n EnrolCategory = start ≤ n
-Within n (Load actor category day approved count) = (start ≤ actor) × (actor < category) × (category < n) × (count ≤ 256)
-Within n (File submitter) = (start ≤ submitter) × (submitter < n)
-Within n (Engagement actor category day step) = (start ≤ actor) × (actor < category) × (category < n)
-Within n (RecordOf asker id) = (start ≤ asker) × (asker < n)
-Within n Unknown = 0 ≤ n
+abbrev pub secondText : List ℕ → Line → List ℕ
+secondText line r = cut line (r .first + 1) (r .second)
 
--- A LINE IS READ: what it says is what is asked; of the powers' places, those of the powers hold them and the rest are untouched; and
--- its spans lie in the line
-pub record Read (line powers : List ℕ) (r : Line) (after : List ℕ) (a : Asked) : Type 0 where
-  pub says : asked line r after ≡ a
-  pub holds : after ≡ sets powers 0 (powersOf a)
-  pub within : Within (length line) r
+-- the places for powers
+abbrev pub powerPlaces : ℕ
+powerPlaces = 256
+
+-- a line's powers: the numbers that the fields from a place on are, so many of them
+unfoldable pub powersOf : List ℕ → Line → List ℕ
+powersOf line r = take (min (r .count) powerPlaces) (map numberIn (fieldsFrom line (r .from)))
+
+-- THE CALL that a line is, by its texts, its day, its number and its powers
+abbrev pub callOf : CallKind → List ℕ → List ℕ → ℕ → ℕ → List ℕ → Call.Call
+callOf Advance x y day n powers = Call.advance day n
+callOf EnrolActor x y day n powers = Call.enrolActor x day n
+callOf EnrolCategory x y day n powers = Call.enrolCategory x
+callOf Load x y day n powers = Call.load x y day n powers
+
+-- WHAT A LINE ASKS by them
+abbrev pub askedOf : Kind → List ℕ → List ℕ → ℕ → ℕ → List ℕ → Asked
+askedOf (Calls call) x y day n powers = calls (callOf call x y day n powers)
+askedOf Files x y day n powers = fileOf x y
+askedOf Engagement x y day n powers = engagement x y day n
+askedOf RecordOf x y day n powers = recordOf x n
+askedOf Unknown x y day n powers = unknown
+
+-- WHAT A LINE READ SAYS
+unfoldable pub asked : List ℕ → Line → Asked
+asked line r = askedOf (r .kind) (firstText line r) (secondText line r) (r .day) (r .number) (powersOf line r)
+
+-- a line that files names a file
+abbrev pub namesFile : Kind → Bool
+namesFile (Calls call) = false
+namesFile Files = true
+namesFile Engagement = false
+namesFile RecordOf = false
+namesFile Unknown = false
+
+-- A LINE IS READ: what it says is what is asked, and the name of a file goes to the end of its line
+pub record Read (line : List ℕ) (r : Line) (a : Asked) : Type 0 where
+  pub says : asked line r ≡ a
+  pub named : namesFile (r .kind) ≡ true → (r .first < length line) × (r .second ≡ length line)

@@ -1,14 +1,12 @@
 // The fields of a line: where they end, and what those that are dates or numbers stand for.
 ghost use mathlib.Core.Path.{_≡_};
 ghost use mathlib.Core.Bool.{false};
-ghost use mathlib.Core.List.{map};
 ghost use Prim.Native.Nat.{_+_, _*_, _≤_, _<_};
-ghost use lib.ListN.{length, take};
-ghost use lib.Seq.{sets};
+ghost use lib.ListN.{length};
 ghost use Rattle.lists.specs.Searches.{placeOf};
-ghost use Rattle.script.specs.Numbers.{valueOf, dayIn};
-ghost use Rattle.script.specs.Lines.{lineMost};
-ghost use Rattle.script.specs.Walking.{isComma, FieldEnd, fieldsFrom, numberIn, countIn};
+ghost use Rattle.script.specs.Numbers.{dayIn};
+ghost use Rattle.script.specs.Fields.{fieldsFrom, numberIn};
+ghost use Rattle.script.specs.Walking.{isComma, FieldEnd, countIn};
 use calendar::DAYS;
 use calendar::Day;
 use calendar::day_of;
@@ -127,35 +125,21 @@ pub(crate) fn number_in(s: &[u8]) -> u32
     v
 }
 
-// How many numbers the fields from a place on are, with the numbers put into lent places; 0 where one of them is no number.
-pub(crate) fn numbers_in(line: &[u8], from: usize, numbers: &mut [u32]) -> usize
-    requires { ⌜ (2 ≤ from) × (from ≤ length (now line)) × (length (now line) ≤ lineMost) × (256 ≤ length (now numbers)) ⌝ }
-    ensures { λ r. ⌜ (r ≡ countIn (fieldsFrom (now (line .entry)) from)) × (r * 2 + from ≤ length (now (line .entry)) + 1) × (0 < r → now (numbers .exit) ≡ sets (now (numbers .entry)) 0 (map valueOf (fieldsFrom (now (line .entry)) from))) ⌝ }
+// How many numbers the fields from a place on are; 0 where one of them is no number.
+pub(crate) fn count_in(line: &[u8], from: usize) -> usize
+    requires { ⌜ from ≤ length (now line) ⌝ }
+    ensures { λ r. ⌜ (r ≡ countIn (fieldsFrom (now (line .entry)) from)) × (r * 2 + from ≤ length (now (line .entry)) + 1) ⌝ }
 {
     let n = line.len();
     let mut count: usize = 0;
     let mut at = from;
     while at <= n {
         let end = field_end(line, at);
-        let v = number_in(&line[at..end]);
-        if NUMBER_END <= v {
+        if NUMBER_END <= number_in(&line[at..end]) {
             return 0;
         }
-        numbers[count] = v;
         count += 1;
         at = end + 1;
     }
     count
-}
-
-// Puts the first numbers into the places of the powers.
-pub(crate) fn fill(numbers: &[u32], count: usize, powers: &mut [u32])
-    requires { ⌜ (count ≤ length (now numbers)) × (count ≤ length (now powers)) ⌝ }
-    ensures { λ r. ⌜ now (powers .exit) ≡ sets (now (powers .entry)) 0 (take count (now (numbers .entry))) ⌝ }
-{
-    let mut k: usize = 0;
-    while k < count {
-        powers[k] = numbers[k];
-        k += 1;
-    }
 }

@@ -6,12 +6,11 @@ use mathlib.Core.List.{List, [], _∷_}
 use Prim.Native.Nat.{ℕ}
 use lib.ListN.{replicate}
 use Rattle.ledger.specs.Ledger.{Ledger}
-use Rattle.ledger.specs.Call as Call
 use Rattle.answers.specs.Values.{saidRefusal}
 use Rattle.register.specs.View.{Register}
 use Rattle.register.specs.Written.{does}
-use Rattle.turns.specs.Told.{told, tells}
-use Rattle.script.specs.Lines.{fields, categoryIn, fileIn, byLetter, lineOf}
+use Rattle.register.specs.Told.{told, tells}
+use Rattle.script.specs.Lines.{filing, fields, categoryIn, fileIn, byLetter, lineOf}
 use Rattle.session.specs.Lines.{onlyAsks, askStep, lineStep}
 
 -- `Z`, `C,` with 511 bytes more, and `F,X,Y`
@@ -33,7 +32,7 @@ pub record Eleven (r : Register) (l : Ledger) (readable : Bool) (body : List ℕ
   pub only-asked : (onlyAsks (lineOf noForm) ≡ true) × (askStep l (lineOf noForm) ≡ saidRefusal 11 0)
   -- "a file that can't be read", and one that can: its body is filed
   pub no-file : lineStep r false body (lineOf fileLine) ≡ tells r (saidRefusal 11 0)
-  pub a-file : lineStep r true body (lineOf fileLine) ≡ told (does r (Call.file (88 ∷ []) (89 ∷ []) body))
+  pub a-file : lineStep r true body (lineOf fileLine) ≡ told (does r (filing (88 ∷ []) (89 ∷ []) body))
 
 pub eleven : (r : Register) (l : Ledger) (readable : Bool) (body : List ℕ) → Eleven r l readable body
 unfolding fields categoryIn fileIn byLetter lineOf onlyAsks askStep lineStep

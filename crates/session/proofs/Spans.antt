@@ -1,185 +1,144 @@
--- What a line does by the spans of its texts.
-use mathlib.Core.Path.{_≡_, refl, ap, sym, _∙_, subst}
+-- What a line does by what was read of it.
+use mathlib.Core.Path.{_≡_, refl, sym, ap, ap₂, _∙_}
 use mathlib.Core.Bool.{Bool, true, false, not}
-use mathlib.Core.List.{List}
-use Prim.Native.Nat.{ℕ, _+_, _-_, _≤_, min}
-use lib.ListN.{length, take, drop}
-use lib.Seq.{length-take-le, length-sets}
+use mathlib.Core.List.{List, [], _∷_}
+use mathlib.Core.Logic.{inl, inr}
+use Prim.Native.Nat.{ℕ, _≤_}
 use native.Mathlib.Omega.{arith}
+use lib.ListN.{length, take}
+use lib.Seq.{length-take-le}
+use types.Run.{OneOf}
+use denote.Enum.Declared.{tagOf}
+use borrow.Author.Tests.{not-true, not-false}
+use Rattle.lists.proofs.Tests.{true-false}
 use Rattle.ledger.specs.Ledger.{Ledger}
-use Rattle.ledger.specs.Call as Call
 use Rattle.ledger.specs.Asking.{askEngagement, askRecord}
-use Rattle.answers.specs.declared.Said.{Said}
+use Rattle.ledger.specs.declared.Engaged.{Engaged}
+use Rattle.ledger.specs.declared.Shown.{Shown}
 use Rattle.answers.specs.Values.{saidEngaged, saidShown, saidRefused}
+use Rattle.answers.specs.declared.Said.{Said}
 use Rattle.register.specs.View.{Register, held}
 use Rattle.register.specs.Written.{does}
-use Rattle.turns.specs.Told.{Told, told, tells}
-use borrow.Author.Tests.{not-true, not-false}
-use Rattle.lists.proofs.Parts.{rest-all}
-use Rattle.lists.proofs.Tests.{true-false}
-use Rattle.script.specs.Lines.{Asked, advance, enrolActor, enrolCategory, load, file, engagement, recordOf, unknown}
-use Rattle.script.specs.Spans.{cut, asked, Within, Read}
+use Rattle.register.specs.Told.{told, tells}
+use Rattle.script.specs.Lines.{Asked, calls, fileOf, engagement, recordOf, unknown, filing}
+use Rattle.script.specs.Spans.{firstText, secondText, powersOf, callOf, askedOf, asked}
+use Rattle.script.specs.declared.reading.CallKind.{CallKind}
+use Rattle.script.specs.declared.reading.Kind.{Kind}
+use Rattle.script.specs.declared.reading.Kind.the-variants.{Calls, Files, Engagement, RecordOf, Unknown}
 use Rattle.script.specs.declared.reading.Line.{Line}
-use Rattle.script.specs.declared.reading.Line.the-variants.{Advance, EnrolActor, EnrolCategory, Load, File, Engagement, RecordOf, Unknown}
-use Rattle.session.specs.declared.asking.Asking.{Asking}
-use Rattle.session.specs.Lines.{noCall, onlyAsks, askStep, engagedBy, lineStep, filedBy}
-
--- the first powers are so many
-pub counted : (n : ℕ) (powers : List ℕ) → length powers ≡ 256 → n ≤ 256 → n ≡ length (take n powers)
-counted n powers e h = sym (length-take-le n powers (rw e h))
-
-module _ (r : Register) (readable : Bool) (body line powers : List ℕ) where
-  pub unknown-line : tells r (saidRefused noCall) ≡ lineStep r readable body (asked line Unknown powers)
-  unfolding asked lineStep
-  unknown-line = refl
-
-  pub advance-line : (day minute : ℕ) → told (does r (Call.advance day minute)) ≡ lineStep r readable body (asked line (Advance day minute) powers)
-  unfolding asked lineStep
-  advance-line day minute = refl
-
-  pub actor-line : (code first last : ℕ) →
-      told (does r (Call.enrolActor (cut line 2 code) first last)) ≡ lineStep r readable body (asked line (EnrolActor code first last) powers)
-  unfolding asked lineStep
-  actor-line code first last = refl
-
-  pub category-line :
-      told (does r (Call.enrolCategory (take (length line - 2) (drop 2 line)))) ≡ lineStep r readable body (asked line EnrolCategory powers)
-  unfolding asked lineStep
-  category-line = ap (λ text. told (does r (Call.enrolCategory text))) (rest-all 2 line)
-
-  pub load-line : (actor category day approved count : ℕ) →
-      told (does r (Call.load (cut line 2 actor) (cut line (actor + 1) category) day approved (take count powers)))
-      ≡ lineStep r readable body (asked line (Load actor category day approved count) powers)
-  unfolding asked lineStep
-  load-line actor category day approved count = refl
-
-  -- a file that can be read, by spans that are cut off at the line's end
-  pub filed-cut : (submitter first second end : ℕ) → not readable ≡ false → end ≡ min submitter (length line) → first ≡ min 2 end →
-      second ≡ min (end + 1) (length line) →
-      told (does r (Call.file (take (end - first) (drop first line)) (take (length line - second) (drop second line)) body))
-      ≡ filedBy r readable body line submitter
-  unfolding filedBy lineStep
-  filed-cut submitter first second end t e f g = rw (not-false readable t, rest-all second line, g, f, e) refl
-
-  -- a file that can't be read
-  pub filed-none : (submitter : ℕ) → not readable ≡ true → lineStep r readable body (asked line Unknown powers) ≡ filedBy r readable body line submitter
-  unfolding asked filedBy lineStep
-  filed-none submitter e = rw (not-true readable e) refl
-
-  -- spans that lie in the line are not cut off
-  pub filed-within : (submitter : ℕ) → Within (length line) (File submitter) →
-      filedBy r readable body line submitter ≡ lineStep r readable body (asked line (File submitter) powers)
-  unfolding asked filedBy
-  filed-within submitter w =
-      let e : min submitter (length line) ≡ submitter = omega (arith, w .1) in
-      let f : min 2 submitter ≡ 2 = omega (arith, w .0) in
-      let g : min (submitter + 1) (length line) ≡ submitter + 1 = omega (arith, w .1) in
-      rw (e, f, g) refl
-
-  -- what is answered to a line by what was read of it is what is answered to the line
-  pub answered : {read form : Line} {before : List ℕ} {a : Asked} {x : Told} → Read line before read powers a → read ≡ form →
-      x ≡ lineStep r readable body (asked line form powers) → x ≡ lineStep r readable body a
-  answered w e s = s ∙ ap (lineStep r readable body) (ap (λ y. asked line y powers) (sym e) ∙ w .says)
-
--- what is said of an engagement by spans that are cut off at the line's end
-pub engaged-cut : (l : Ledger) (line : List ℕ) (actor category day s first second end last : ℕ) → last ≡ min category (length line) →
-    end ≡ min actor last → first ≡ min 2 end → second ≡ min (end + 1) last →
-    saidEngaged (askEngagement l (take (end - first) (drop first line)) (take (last - second) (drop second line)) day s)
-    ≡ engagedBy l line actor category day s
-unfolding engagedBy
-engaged-cut l line actor category day s first second end last e f g h = rw (h, g, f, e)
-
--- what is told of a line that may only ask
-abbrev pub asking : Ledger → Asked → Asking
-asking l a = record { asks = onlyAsks a; said = askStep l a }
-
--- a line that is a call
-abbrev pub a-call : Asking
-a-call = record { asks = false; said = saidRefused noCall }
-
--- what a line that only asks says, by what was read of it
-module _ (l : Ledger) (line powers : List ℕ) where
-  pub asks-by : {r form : Line} {before : List ℕ} {a : Asked} {x : Asking} → Read line before r powers a → r ≡ form →
-      x ≡ asking l (asked line form powers) → x ≡ asking l a
-  asks-by w e s = s ∙ ap (asking l) (ap (λ y. asked line y powers) (sym e) ∙ w .says)
-
-  -- a line that only asks, and what it says
-  pub asks-said : (form : Line) {x y : Said} → x ≡ askStep l (asked line form powers) →
-      (true ≡ onlyAsks (asked line form powers)) × (y ≡ askStep l (asked line form powers)) → record { asks = true; said = x } ≡ asking l (asked line form powers)
-  asks-said form e p =
-      ap (λ s. record { asks = true; said = s }) e ∙ ap (λ b. record { asks = b; said = askStep l (asked line form powers) }) (p .0)
-
-  pub asks-advance : (day minute : ℕ) → a-call ≡ asking l (asked line (Advance day minute) powers)
-  unfolding asked onlyAsks askStep
-  asks-advance day minute = refl
-
-  pub asks-actor : (code first last : ℕ) → a-call ≡ asking l (asked line (EnrolActor code first last) powers)
-  unfolding asked onlyAsks askStep
-  asks-actor code first last = refl
-
-  pub asks-category : a-call ≡ asking l (asked line EnrolCategory powers)
-  unfolding asked onlyAsks askStep
-  asks-category = refl
-
-  pub asks-load : (actor category day approved count : ℕ) → a-call ≡ asking l (asked line (Load actor category day approved count) powers)
-  unfolding asked onlyAsks askStep
-  asks-load actor category day approved count = refl
-
-  pub asks-file : (submitter : ℕ) → a-call ≡ asking l (asked line (File submitter) powers)
-  unfolding asked onlyAsks askStep
-  asks-file submitter = refl
-
-  pub asks-engagement : (actor category day s : ℕ) →
-      (true ≡ onlyAsks (asked line (Engagement actor category day s) powers)) ×
-      (saidEngaged (askEngagement l (cut line 2 actor) (cut line (actor + 1) category) day s) ≡ askStep l (asked line (Engagement actor category day s) powers))
-  unfolding asked onlyAsks askStep
-  asks-engagement actor category day s = (refl, refl)
-
-  -- spans that lie in the line are not cut off
-  pub engaged-within : (actor category day s : ℕ) → Within (length line) (Engagement actor category day s) →
-      engagedBy l line actor category day s ≡ askStep l (asked line (Engagement actor category day s) powers)
-  unfolding engagedBy
-  engaged-within actor category day s w =
-      let e : min category (length line) ≡ category = omega (arith, w .2) in
-      let f : min actor category ≡ actor = omega (arith, w .1) in
-      let g : min 2 actor ≡ 2 = omega (arith, w .0) in
-      let h : min (actor + 1) category ≡ actor + 1 = omega (arith, w .1) in
-      rw (e, f, g, h) (asks-engagement actor category day s .1)
-
-  pub asks-record : (asker id : ℕ) →
-      (true ≡ onlyAsks (asked line (RecordOf asker id) powers)) × (saidShown (askRecord l (cut line 2 asker) id) ≡ askStep l (asked line (RecordOf asker id) powers))
-  unfolding asked onlyAsks askStep
-  asks-record asker id = (refl, refl)
-
-  pub asks-unknown : (true ≡ onlyAsks (asked line Unknown powers)) × (saidRefused noCall ≡ askStep l (asked line Unknown powers))
-  unfolding asked onlyAsks askStep
-  asks-unknown = (refl, refl)
+use Rattle.script.proofs.reading.Kind as kind-type
+use Rattle.session.specs.Lines.{noCall, onlyAsks, askStep, lineStep}
 
 -- A LINE THAT ONLY ASKS is answered as the definition of a line's step has it
 pub asks-only : (r : Register) (readable : Bool) (body : List ℕ) (a : Asked) → onlyAsks a ≡ true → lineStep r readable body a ≡ tells r (askStep (held r) a)
 unfolding onlyAsks askStep lineStep
-asks-only r readable body (advance day minute) e = true-false true refl (sym e)
-asks-only r readable body (enrolActor code first last) e = true-false true refl (sym e)
-asks-only r readable body (enrolCategory text) e = true-false true refl (sym e)
-asks-only r readable body (load actor category day approved powers) e = true-false true refl (sym e)
-asks-only r readable body (file submitter name) e = true-false true refl (sym e)
+asks-only r readable body (calls c) e = true-false true refl (sym e)
+asks-only r readable body (fileOf submitter name) e = true-false true refl (sym e)
 asks-only r readable body (engagement actor category day s) e = refl
 asks-only r readable body (recordOf asker id) e = refl
 asks-only r readable body unknown e = refl
 
-module _ (r : Register) (readable : Bool) (body line powers : List ℕ) where
-  pub engagement-line : (actor category day s : ℕ) →
-      tells r (askStep (held r) (asked line (Engagement actor category day s) powers)) ≡ lineStep r readable body (asked line (Engagement actor category day s) powers)
-  engagement-line actor category day s = sym (asks-only r readable body _ (sym (asks-engagement (held r) line powers actor category day s .0)))
+-- ---- by its kind
 
-  pub record-line : (asker id : ℕ) →
-      tells r (askStep (held r) (asked line (RecordOf asker id) powers)) ≡ lineStep r readable body (asked line (RecordOf asker id) powers)
-  record-line asker id = sym (asks-only r readable body _ (sym (asks-record (held r) line powers asker id .0)))
+-- tags of kinds
+not-in : {a b c : ℕ} (k : ℕ) → (a ≡ k → ⊥) → (b ≡ k → ⊥) → (c ≡ k → ⊥) → OneOf (a ∷ b ∷ c ∷ []) k → ⊥
+not-in k p q r (inl e) = p (sym e)
+not-in k p q r (inr (inl e)) = q (sym e)
+not-in k p q r (inr (inr e)) = r (sym e)
 
--- the spans of a line that was read lie in it
-pub within-form : {line before powers : List ℕ} {r form : Line} {a : Asked} → Read line before r powers a → r ≡ form → Within (length line) form
-within-form {line} w e = subst (Within (length line)) e (w .within)
+module _ (x y : List ℕ) (day n : ℕ) (powers : List ℕ) where
+  none-of : (l : Ledger) (k : Kind) → OneOf (0 ∷ 1 ∷ 4 ∷ []) (tagOf kind-type.the-type k) → saidRefused noCall ≡ askStep l (askedOf k x y day n powers)
+  unfolding askStep
+  none-of l (Calls call) t = refl
+  none-of l Files t = refl
+  none-of l Engagement t = absurd (not-in 2 (λ e. omega (arith, e)) (λ e. omega (arith, e)) (λ e. omega (arith, e)) t)
+  none-of l RecordOf t = absurd (not-in 3 (λ e. omega (arith, e)) (λ e. omega (arith, e)) (λ e. omega (arith, e)) t)
+  none-of l Unknown t = refl
 
--- a line that was read leaves as many places for powers as there were
-pub places-kept : {line before powers : List ℕ} {r : Line} {a : Asked} → Read line before r powers a → length powers ≡ length before
-places-kept w = ap length (w .holds) ∙ simp length-sets
+  asks-of : (k : Kind) → OneOf (2 ∷ 3 ∷ 4 ∷ []) (tagOf kind-type.the-type k) → onlyAsks (askedOf k x y day n powers) ≡ true
+  unfolding onlyAsks
+  asks-of (Calls call) t = absurd (not-in 0 (λ e. omega (arith, e)) (λ e. omega (arith, e)) (λ e. omega (arith, e)) t)
+  asks-of Files t = absurd (not-in 1 (λ e. omega (arith, e)) (λ e. omega (arith, e)) (λ e. omega (arith, e)) t)
+  asks-of Engagement t = refl
+  asks-of RecordOf t = refl
+  asks-of Unknown t = refl
+
+module _ (line : List ℕ) (r : Line) where
+  asked-by : {k : Kind} → r .kind ≡ k → asked line r ≡ askedOf k (firstText line r) (secondText line r) (r .day) (r .number) (powersOf line r)
+  unfolding asked
+  asked-by e = ap (λ (k : Kind). askedOf k (firstText line r) (secondText line r) (r .day) (r .number) (powersOf line r)) e
+
+  pub asks-call : {call : CallKind} → r .kind ≡ Calls call → false ≡ onlyAsks (asked line r)
+  unfolding onlyAsks
+  asks-call e = ap onlyAsks (sym (asked-by e))
+
+  pub asks-files : r .kind ≡ Files → false ≡ onlyAsks (asked line r)
+  unfolding onlyAsks
+  asks-files e = ap onlyAsks (sym (asked-by e))
+
+  pub asks-engagement : r .kind ≡ Engagement → true ≡ onlyAsks (asked line r)
+  unfolding onlyAsks
+  asks-engagement e = ap onlyAsks (sym (asked-by e))
+
+  pub asks-record : r .kind ≡ RecordOf → true ≡ onlyAsks (asked line r)
+  unfolding onlyAsks
+  asks-record e = ap onlyAsks (sym (asked-by e))
+
+  pub asks-unknown : r .kind ≡ Unknown → true ≡ onlyAsks (asked line r)
+  unfolding onlyAsks
+  asks-unknown e = ap onlyAsks (sym (asked-by e))
+
+  -- what a line that only asks says
+  module _ (l : Ledger) {said : Said} where
+    pub engaged-said : {x y : List ℕ} {a : Engaged} → said ≡ saidEngaged a → a ≡ askEngagement l x y (r .day) (r .number) → x ≡ firstText line r →
+        y ≡ secondText line r → said ≡ saidEngaged (askEngagement l (firstText line r) (secondText line r) (r .day) (r .number))
+    engaged-said f g h k = f ∙ ap saidEngaged (g ∙ ap₂ (λ (x y : List ℕ). askEngagement l x y (r .day) (r .number)) h k)
+
+    pub engagement-said : r .kind ≡ Engagement → said ≡ saidEngaged (askEngagement l (firstText line r) (secondText line r) (r .day) (r .number)) →
+        said ≡ askStep l (asked line r)
+    unfolding askStep
+    engagement-said e f = f ∙ ap (askStep l) (sym (asked-by e))
+
+    pub record-said : {x : List ℕ} {a : Shown} → r .kind ≡ RecordOf → said ≡ saidShown a → a ≡ askRecord l x (r .number) → x ≡ firstText line r →
+        said ≡ askStep l (asked line r)
+    unfolding askStep
+    record-said e f g h = f ∙ ap saidShown (g ∙ ap (λ (x : List ℕ). askRecord l x (r .number)) h) ∙ ap (askStep l) (sym (asked-by e))
+
+    pub none-said : OneOf (0 ∷ 1 ∷ 4 ∷ []) (tagOf kind-type.the-type (r .kind)) → said ≡ saidRefused noCall → said ≡ askStep l (asked line r)
+    unfolding asked
+    none-said t f = f ∙ none-of (firstText line r) (secondText line r) (r .day) (r .number) (powersOf line r) l (r .kind) t
+
+  -- what a line does
+  module _ (reg : Register) (readable : Bool) (body : List ℕ) where
+    pub calls-line : {call : CallKind} → r .kind ≡ Calls call →
+        told (does reg (callOf call (firstText line r) (secondText line r) (r .day) (r .number) (powersOf line r))) ≡ lineStep reg readable body (asked line r)
+    unfolding lineStep
+    calls-line e = ap (lineStep reg readable body) (sym (asked-by e))
+
+    pub files-line : r .kind ≡ Files → lineStep reg readable body (fileOf (firstText line r) (secondText line r)) ≡ lineStep reg readable body (asked line r)
+    files-line e = ap (lineStep reg readable body) (sym (asked-by e))
+
+    pub asks-line : OneOf (2 ∷ 3 ∷ 4 ∷ []) (tagOf kind-type.the-type (r .kind)) → tells reg (askStep (held reg) (asked line r)) ≡ lineStep reg readable body (asked line r)
+    unfolding asked
+    asks-line t = sym (asks-only reg readable body _ (asks-of (firstText line r) (secondText line r) (r .day) (r .number) (powersOf line r) (r .kind) t))
+
+-- ---- calls
+
+-- a call by its kind, its texts and its powers
+pub called-by : (reg : Register) (day n : ℕ) {call k : CallKind} {x x' y y' powers powers' : List ℕ} → call ≡ k → x ≡ x' → y ≡ y' → powers ≡ powers' →
+    told (does reg (callOf k x y day n powers)) ≡ told (does reg (callOf call x' y' day n powers'))
+called-by reg day n e f g h = rw (e, f, g, h) refl
+
+-- the first powers are so many
+pub counted : (n : ℕ) (powers : List ℕ) → n ≤ length powers → n ≡ length (take n powers)
+counted n powers h = sym (length-take-le n powers h)
+
+-- a file that can't be read, and one that can
+module _ (reg : Register) (readable : Bool) (body : List ℕ) where
+  pub none-filed : (x y : List ℕ) {said : Said} → not readable ≡ true → said ≡ saidRefused noCall → tells reg said ≡ lineStep reg readable body (fileOf x y)
+  unfolding lineStep
+  none-filed x y e f = rw (not-true readable e, f) refl
+
+  pub one-filed : {x x' y y' : List ℕ} → not readable ≡ false → x ≡ x' → y ≡ y' → told (does reg (filing x y body)) ≡ lineStep reg readable body (fileOf x' y')
+  unfolding lineStep
+  one-filed e f g = rw (not-false readable e, f, g) refl

@@ -1,81 +1,76 @@
 // A line answered.
 ghost use mathlib.Core.Path.{_≡_};
-ghost use Rattle.turns.specs.Told.{tells};
-ghost use Rattle.script.specs.Lines.{lineOf};
+ghost use Rattle.tables.specs.Tables.{columns, loadColumns};
+ghost use Rattle.register.specs.View.{lent};
+ghost use Rattle.register.specs.Told.{tells};
+ghost use Rattle.script.specs.Spans.{asked};
 ghost use Rattle.session.specs.Lines.{lineStep};
-use crate::asking;
-use crate::calling;
+use crate::asking::ask;
+use crate::calling::called;
+use crate::calling::filed;
 use register::Head;
+use register::turning::Turn;
+use script::reading::Kind;
 use script::reading::Line;
-use script::reading::read_line;
-use turns::Turn;
 
-// Answers a line, which has no LF. `readable` says whether the file that the line names can be read, and `body` has its bytes.
+// Answers a line, by what was read of it. `readable` says whether the file that the line names can be read, and `body` has its bytes.
 pub fn answer(
     head: Head,
+    statuses: &mut [u8; 256],
+    ids: &mut [u32; 256],
     keys: &mut [u32; 256],
     marks: &mut [[u8; 4]; 256],
     rows: &mut [[u16; 50]; 256],
+    numbers: &mut [u32; 64],
+    approved: &mut [u16; 64],
     loads: &mut [[u16; 50]; 64],
     line: &[u8],
+    read: Line,
     readable: bool,
     body: &[u8],
 ) -> Turn
-    ensures { λ r. ⌜ tells (record { head = r .head; columns = record { keys = now (keys .exit); marks = now (marks .exit); rows = now (rows .exit) }; loads = now (loads .exit) }) (r .said) ≡ lineStep (record { head = head; columns = record { keys = now (keys .entry); marks = now (marks .entry); rows = now (rows .entry) }; loads = now (loads .entry) }) readable (now (body .entry)) (lineOf (now (line .entry))) ⌝ }
+    ensures { λ r. ⌜
+        tells
+        (lent (r .head) (columns (now (statuses .exit)) (now (ids .exit)) (now (keys .exit)) (now (marks .exit)) (now (rows .exit)))
+        (loadColumns (now (numbers .exit)) (now (approved .exit)) (now (loads .exit))))
+        (r .said)
+        ≡ lineStep
+        (lent head (columns (now (statuses .entry)) (now (ids .entry)) (now (keys .entry)) (now (marks .entry)) (now (rows .entry)))
+        (loadColumns (now (numbers .entry)) (now (approved .entry)) (now (loads .entry))))
+        readable (now (body .entry)) (asked (now (line .entry)) read) ⌝ }
 {
-    let mut powers = [0u32; 256];
-    let asked = read_line(line, &mut powers);
-    match asked {
-        Line::Advance(day, minute) => calling::advance(head, day, minute),
-        Line::EnrolActor(code, first, last) => calling::enrol_actor(head, line, code, first, last),
-        Line::EnrolCategory => calling::enrol_category(head, line),
-        Line::Load(actor, category, day, approved, count) => calling::load(
+    let kind = read.kind;
+    match kind {
+        Kind::Calls(call) => called(head, numbers, approved, loads, call, line, read),
+        Kind::Files => filed(
             head,
-            loads,
-            &powers,
-            line,
-            actor,
-            category,
-            day,
-            approved,
-            count,
-        ),
-        Line::File(submitter) => calling::filed(
-            head,
+            statuses,
+            ids,
             keys,
             marks,
             rows,
+            &*numbers,
+            &*approved,
             &*loads,
             line,
-            submitter,
+            read,
             readable,
             body,
         ),
-        Line::Engagement(actor, category, day, step) => {
-            let said = asking::engagement(
+        _ => {
+            let said = ask(
                 head,
+                &*statuses,
+                &*ids,
                 &*keys,
                 &*marks,
                 &*rows,
+                &*numbers,
                 &*loads,
                 line,
-                actor,
-                category,
-                day,
-                step,
+                read,
             );
-            Turn {
-                head: head,
-                said: said,
-            }
+            Turn { head, said }
         }
-        Line::RecordOf(asker, id) => {
-            let said = asking::record(head, &*keys, &*marks, &*rows, line, asker, id);
-            Turn {
-                head: head,
-                said: said,
-            }
-        }
-        Line::Unknown => calling::no_call(head),
     }
 }

@@ -1,122 +1,113 @@
-// The lines that are calls of demand 3's list: T, A, C, L and F.
+// The lines that are calls of demand 3's list: T, A, C, L, and F with its file.
 ghost use mathlib.Core.Path.{_≡_};
-ghost use mathlib.Core.Bool.{Bool};
-ghost use mathlib.Core.List.{List};
-ghost use Prim.Native.Nat.{ℕ};
-ghost use lib.ListN.{length};
-ghost use Rattle.tables.specs.Tables.{Columns};
-ghost use Rattle.turns.specs.Told.{tells};
-ghost use Rattle.script.specs.Spans.{asked, Within};
-ghost use Rattle.session.specs.Lines.{lineStep, filedBy};
-use crate::places::within;
+ghost use Rattle.tables.specs.Tables.{Columns, columns, loadColumns};
+ghost use Rattle.register.specs.View.{lent};
+ghost use Rattle.register.specs.Written.{does};
+ghost use Rattle.register.specs.Told.{told, tells};
+ghost use Rattle.script.specs.Lines.{fileOf};
+ghost use Rattle.script.specs.Spans.{firstText, secondText, powersOf, callOf};
+ghost use Rattle.session.specs.Lines.{lineStep};
+use crate::asking::NO_CALL;
 use answers::refused;
 use register::Head;
+use register::turning::Turn;
+use register::turning::turned;
+use script::parts::first_text;
+use script::parts::powers_of;
+use script::parts::second_text;
+use script::reading::CallKind;
 use script::reading::Line;
-use turns::Turn;
-use turns::turned;
 
-// What a line of no known form is refused by, and one whose file can't be read.
-const NO_CALL: u32 = 11;
-
-// A line that makes no call.
-pub(crate) fn no_call(head: Head) -> Turn
-    ensures { λ r. ⌜ ((cols : Columns) (loads : List (List ℕ)) (readable : Bool) (body line powers : List ℕ) → tells (record { head = r .head; columns = cols; loads = loads }) (r .said) ≡ lineStep (record { head = head; columns = cols; loads = loads }) readable body (asked line Line.Unknown powers)) ⌝ }
+// A call, by what was read of its line.
+pub(crate) fn called(
+    head: Head,
+    numbers: &mut [u32; 64],
+    approved: &mut [u16; 64],
+    loads: &mut [[u16; 50]; 64],
+    call: CallKind,
+    line: &[u8],
+    read: Line,
+) -> Turn
+    ensures { λ r. ⌜
+        ((columns : Columns) →
+        tells (lent (r .head) columns (loadColumns (now (numbers .exit)) (now (approved .exit)) (now (loads .exit)))) (r .said)
+        ≡ told (does (lent head columns (loadColumns (now (numbers .entry)) (now (approved .entry)) (now (loads .entry))))
+        (callOf call (firstText (now (line .entry)) read) (secondText (now (line .entry)) read) (read .day) (read .number)
+        (powersOf (now (line .entry)) read)))) ⌝ }
 {
-    Turn {
-        head: head,
-        said: refused(NO_CALL),
+    match call {
+        CallKind::Advance => turned(head.advance(read.day, read.number)),
+        CallKind::EnrolActor => turned(head.enrol_actor(
+            first_text(line, read),
+            read.day,
+            read.number,
+        )),
+        CallKind::EnrolCategory => turned(head.enrol_category(first_text(line, read))),
+        CallKind::Load => {
+            let actor = first_text(line, read);
+            let category = second_text(line, read);
+            let powers = powers_of(line, read);
+            let count = powers.count;
+            let given = powers.numbers;
+            turned(head.load(
+                numbers,
+                approved,
+                loads,
+                actor,
+                category,
+                read.day,
+                read.number,
+                &given[..count],
+            ))
+        }
     }
 }
 
-// `T,date,minute`
-pub(crate) fn advance(head: Head, day: u32, minute: u32) -> Turn
-    ensures { λ r. ⌜ ((cols : Columns) (loads : List (List ℕ)) (readable : Bool) (body line powers : List ℕ) → tells (record { head = r .head; columns = cols; loads = loads }) (r .said) ≡ lineStep (record { head = head; columns = cols; loads = loads }) readable body (asked line (Line.Advance day minute) powers)) ⌝ }
-{
-    let reply = head.advance(day, minute);
-    turned(reply)
-}
-
-// `A,code,first,last`
-pub(crate) fn enrol_actor(head: Head, line: &[u8], code: u32, first: u32, last: u32) -> Turn
-    requires { ⌜ Within (length (now line)) (Line.EnrolActor code first last) ⌝ }
-    ensures { λ r. ⌜ ((cols : Columns) (loads : List (List ℕ)) (readable : Bool) (body powers : List ℕ) → tells (record { head = r .head; columns = cols; loads = loads }) (r .said) ≡ lineStep (record { head = head; columns = cols; loads = loads }) readable body (asked (now (line .entry)) (Line.EnrolActor code first last) powers)) ⌝ }
-{
-    let from: usize = 2;
-    let end = code as usize;
-    let reply = head.enrol_actor(&line[from..end], first, last);
-    turned(reply)
-}
-
-// `C,category`
-pub(crate) fn enrol_category(head: Head, line: &[u8]) -> Turn
-    requires { ⌜ Within (length (now line)) Line.EnrolCategory ⌝ }
-    ensures { λ r. ⌜ ((cols : Columns) (loads : List (List ℕ)) (readable : Bool) (body powers : List ℕ) → tells (record { head = r .head; columns = cols; loads = loads }) (r .said) ≡ lineStep (record { head = head; columns = cols; loads = loads }) readable body (asked (now (line .entry)) Line.EnrolCategory powers)) ⌝ }
-{
-    let from: usize = 2;
-    let reply = head.enrol_category(&line[from..]);
-    turned(reply)
-}
-
-// `L,actor,category,date,approved,` and the powers
-pub(crate) fn load(
-    head: Head,
-    loads: &mut [[u16; 50]; 64],
-    powers: &[u32],
-    line: &[u8],
-    actor: u32,
-    category: u32,
-    day: u32,
-    approved: u32,
-    count: u32,
-) -> Turn
-    requires { ⌜ Within (length (now line)) (Line.Load actor category day approved count) × (length (now powers) ≡ 256) ⌝ }
-    ensures { λ r. ⌜ ((cols : Columns) (readable : Bool) (body : List ℕ) → tells (record { head = r .head; columns = cols; loads = now (loads .exit) }) (r .said) ≡ lineStep (record { head = head; columns = cols; loads = now (loads .entry) }) readable body (asked (now (line .entry)) (Line.Load actor category day approved count) (now (powers .entry)))) ⌝ }
-{
-    let first: usize = 2;
-    let end = actor as usize;
-    let second = end + 1;
-    let last = category as usize;
-    let n = count as usize;
-    let reply = head.load(
-        loads,
-        &line[first..end],
-        &line[second..last],
-        day,
-        approved,
-        &powers[..n],
-    );
-    turned(reply)
-}
-
-// `F,submitter,name`, by what was read of it. `readable` says whether the file of that name can be read, and `body` has its bytes. Of
-// spans that don't lie in the line one after the other, what doesn't is left out.
+// A filing, by what was read of its line. `readable` says whether the file that it names can be read, and `body` has its bytes.
 pub fn filed(
     head: Head,
+    statuses: &mut [u8; 256],
+    ids: &mut [u32; 256],
     keys: &mut [u32; 256],
     marks: &mut [[u8; 4]; 256],
     rows: &mut [[u16; 50]; 256],
+    numbers: &[u32; 64],
+    approved: &[u16; 64],
     loads: &[[u16; 50]; 64],
     line: &[u8],
-    submitter: u32,
+    read: Line,
     readable: bool,
     body: &[u8],
 ) -> Turn
-    ensures { λ r. ⌜ tells (record { head = r .head; columns = record { keys = now (keys .exit); marks = now (marks .exit); rows = now (rows .exit) }; loads = now (loads .entry) }) (r .said) ≡ filedBy (record { head = head; columns = record { keys = now (keys .entry); marks = now (marks .entry); rows = now (rows .entry) }; loads = now (loads .entry) }) readable (now (body .entry)) (now (line .entry)) submitter ⌝ }
+    ensures { λ r. ⌜
+        tells
+        (lent (r .head) (columns (now (statuses .exit)) (now (ids .exit)) (now (keys .exit)) (now (marks .exit)) (now (rows .exit)))
+        (loadColumns (now (numbers .entry)) (now (approved .entry)) (now (loads .entry))))
+        (r .said)
+        ≡ lineStep
+        (lent head (columns (now (statuses .entry)) (now (ids .entry)) (now (keys .entry)) (now (marks .entry)) (now (rows .entry)))
+        (loadColumns (now (numbers .entry)) (now (approved .entry)) (now (loads .entry))))
+        readable (now (body .entry)) (fileOf (firstText (now (line .entry)) read) (secondText (now (line .entry)) read)) ⌝ }
 {
     if !readable {
-        return no_call(head);
+        return Turn {
+            head: head,
+            said: refused(NO_CALL),
+        };
     }
-    let end = within(submitter as usize, line.len());
-    let first = within(2, end);
-    let second = within(end + 1, line.len());
-    let reply = head.file(
+    let submitter = first_text(line, read);
+    let name = second_text(line, read);
+    turned(head.file(
+        statuses,
+        ids,
         keys,
         marks,
         rows,
+        numbers,
+        approved,
         loads,
-        &line[first..end],
-        &line[second..],
+        submitter,
+        name,
         body,
-    );
-    turned(reply)
+    ))
 }

@@ -2,4 +2,3 @@
 pub mod answering;
 pub mod asking;
 pub mod calling;
-mod places;

@@ -4,23 +4,17 @@ use mathlib.Core.Bool.{Bool, true, false, cond, _||_}
 use mathlib.Core.List.{List, _∷_, map}
 use Prim.Native.Nat.{ℕ, zero, suc, _-_, _<_}
 use native.Mathlib.Omega.{arith}
-use native.Mathlib.Decide.{ℕ-discrete}
 use lib.ListN.{length, getD}
 use Rattle.lists.specs.Searches.{some, placeOf}
 use Rattle.lists.specs.Sums.{sumTo, sumOver}
 use Rattle.tables.specs.Tables.{downFrom}
-use Rattle.tables.specs.Passing.{lastBelow}
+use Rattle.tables.specs.Passing.{lastBelow, isAt}
 use Rattle.tables.specs.declared.loads.Found.{Found}
 use Rattle.tables.specs.declared.loads.Found.the-variants.{At, Nothing}
 
 -- ---- downFrom
 
 module _ {A : Type 0} where
-  pub down-step : (f : ℕ → A) (i : ℕ) → 0 < i → downFrom f i ≡ f (i - 1) ∷ downFrom f (i - 1)
-  down-step f zero h = absurd (omega arith)
-  down-step f (suc i) h =
-      let e : i ≡ suc i - 1 = omega arith in ap (λ j. f j ∷ downFrom f j) e
-
   pub down-length : (f : ℕ → A) (n : ℕ) → length (downFrom f n) ≡ n
   down-length f zero = refl
   down-length f (suc n) = ap suc (down-length f n)
@@ -45,11 +39,6 @@ module _ {A : Type 0} where
       let e : n - 1 - i ≡ suc n - 1 - suc i = omega arith in down-at f n i d (omega arith) ∙ ap f e
 
 -- ---- lastBelow
-
--- something was found
-abbrev pub isAt : Found → Bool
-isAt (At i) = true
-isAt Nothing = false
 
 -- the place of what was found among n entries with the last first; past them where nothing was
 abbrev pub placeIn : ℕ → Found → ℕ
@@ -78,7 +67,7 @@ last-same p q zero h = refl
 last-same p q (suc n) h =
     ap₂ (λ b r. cond b (At n) r) (h n (omega arith)) (last-same p q n (λ i k. h i (omega arith)))
 
--- what is found is below the bound and passes the test, and nothing after it does
+-- what is found is below the bound and passes the test
 pub last-below : (p : ℕ → Bool) (n i : ℕ) → lastBelow p n ≡ At i → (i < n) × (p i ≡ true)
 unfolding lastBelow
 last-below p zero i e = let z : _≡_ {A = ℕ} 0 1 = cc in absurd (omega arith)
@@ -88,28 +77,6 @@ last-below p (suc n) i e = go (p n) refl e (last-below p n i)
         (i < suc n) × (p i ≡ true)
     go true t e ih = let k : n ≡ i = cc in (omega arith, rw k at t)
     go false t e ih = let r = ih e in (omega arith, r .1)
-
-pub last-after : (p : ℕ → Bool) (n i k : ℕ) → lastBelow p n ≡ At i → i < k → k < n → p k ≡ false
-unfolding lastBelow
-last-after p zero i k e h l = absurd (omega arith)
-last-after p (suc n) i k e h l = go (p n) refl e (ℕ-discrete k n) (λ t. last-after p n i k t h)
-  where
-    go : (b : Bool) → p n ≡ b → cond b (At n) (lastBelow p n) ≡ At i → Dec (k ≡ n) →
-        (lastBelow p n ≡ At i → k < n → p k ≡ false) → p k ≡ false
-    go true t e r ih = let j : n ≡ i = cc in absurd (omega arith)
-    go false t e (yes r) ih = rw r t
-    go false t e (no r) ih = ih e (omega arith)
-
-pub last-nothing : (p : ℕ → Bool) (n k : ℕ) → lastBelow p n ≡ Nothing → k < n → p k ≡ false
-unfolding lastBelow
-last-nothing p zero k e h = absurd (omega arith)
-last-nothing p (suc n) k e h = go (p n) refl e (ℕ-discrete k n) (last-nothing p n k)
-  where
-    go : (b : Bool) → p n ≡ b → cond b (At n) (lastBelow p n) ≡ Nothing → Dec (k ≡ n) →
-        (lastBelow p n ≡ Nothing → k < n → p k ≡ false) → p k ≡ false
-    go true t e r ih = let z : _≡_ {A = ℕ} 0 1 = cc in absurd (omega arith)
-    go false t e (yes r) ih = rw r t
-    go false t e (no r) ih = ih e (omega arith)
 
 -- ---- searches among the entries
 
@@ -124,28 +91,6 @@ module _ {A : Type 0} (p : A → Bool) (f : ℕ → A) where
           (b || some p (downFrom f n)) ≡ isAt (cond b (At n) (lastBelow (λ i. p (f i)) n))
       go true e = refl
       go false e = e
-
-  pub down-some-at : (n i : ℕ) → i < n → p (f i) ≡ true → some p (downFrom f n) ≡ true
-  down-some-at zero i h e = absurd (omega arith)
-  down-some-at (suc n) i h e = go (p (f n)) refl (ℕ-discrete i n) (λ k. down-some-at n i k e)
-    where
-      go : (b : Bool) → p (f n) ≡ b → Dec (i ≡ n) → (i < n → some p (downFrom f n) ≡ true) →
-          (b || some p (downFrom f n)) ≡ true
-      go true t r ih = refl
-      go false t (yes r) ih = let k = rw r at e in let z : _≡_ {A = ℕ} 0 1 = cc in absurd (omega arith)
-      go false t (no r) ih = ih (omega arith)
-
-  pub down-some-none : (n : ℕ) → ((i : ℕ) → i < n → p (f i) ≡ false) → some p (downFrom f n) ≡ false
-  down-some-none zero h = refl
-  down-some-none (suc n) h =
-      rw (h n (omega arith)) (down-some-none n (λ i k. h i (omega arith)))
-
-  pub down-none-at : (n i : ℕ) → some p (downFrom f n) ≡ false → i < n → p (f i) ≡ false
-  down-none-at n i e h = go (p (f i)) refl
-    where
-      go : (b : Bool) → p (f i) ≡ b → p (f i) ≡ false
-      go true t = let k = down-some-at n i h t in let z : _≡_ {A = ℕ} 0 1 = cc in absurd (omega arith)
-      go false t = t
 
   -- the first entry that passes the test is the last found
   pub down-place : (n : ℕ) → placeOf p (downFrom f n) ≡ placeIn n (lastBelow (λ i. p (f i)) n)

@@ -6,7 +6,7 @@ use native.Mathlib.Omega.{arith}
 use lib.Dec.{eqb}
 use borrow.Author.Tests.{eqb-true, eqb-false, eq-eqb}
 use Rattle.lists.proofs.Tests.{by-test, and-left, and-right}
-use Rattle.tables.specs.Tables.{keyNumber, keyIn}
+use Rattle.tables.specs.Tables.{keyNumber, keyFrom}
 
 -- a number by its last parts
 by-four : (n : ℕ) → n / 256 * 4 + n / 64 % 4 ≡ n / 64
@@ -74,7 +74,7 @@ days d r h = omega arith
 
 -- a number of a key is unpacked into its parts
 pub key-unpacked : (c a z d : ℕ) → c < 8 → a < 8 → z < 4 →
-    keyIn (keyNumber c a z d) ≡ record { ceder = c; acquirer = a; category = z; day = d }
+    keyFrom (keyNumber c a z d) ≡ record { ceder = c; acquirer = a; category = z; day = d }
 key-unpacked c a z d h i j =
     let n = d * 32 + z * 8 + c in
     let whole : keyNumber c a z d ≡ n * 8 + a = omega arith in

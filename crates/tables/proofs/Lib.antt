@@ -6,4 +6,5 @@ pub mod Down
 pub mod Fours
 pub mod Listing
 pub mod LoadTable
+pub mod RecordTable
 pub mod Keys

@@ -1,6 +1,6 @@
 -- A list of places, made while numbers are passed one by one, and used to pass over those that it doesn't have.
 use mathlib.Core.Path.{_≡_, refl, sym, subst, ap, _∙_}
-use mathlib.Core.Bool.{Bool, true, false}
+use mathlib.Core.Bool.{Bool, false}
 use mathlib.Core.List.{List}
 use Prim.Native.Nat.{ℕ, zero, suc, _+_, _<_, _≤_}
 use native.Mathlib.Omega.{arith}
@@ -8,7 +8,7 @@ use native.Mathlib.Numerals.{add-one}
 use native.Mathlib.Decide.{ℕ-discrete}
 use lib.ListN.{length, getD, set}
 use lib.Seq.{getD-set-same, getD-set-other}
-use Rattle.tables.specs.Passing.{reached, Listed}
+use Rattle.tables.specs.Passing.{reached, PlacesOf}
 
 -- ---- from a number to a higher one, step by step
 
@@ -23,7 +23,7 @@ through P low (suc high) h next p =
 
 -- ---- making the list
 
-pub listed-none : (test : ℕ → Bool) (places : List ℕ) → Listed test 0 0 places
+pub listed-none : (test : ℕ → Bool) (places : List ℕ) → PlacesOf test 0 0 places
 listed-none test places =
     record {
       few = omega arith;
@@ -33,9 +33,9 @@ listed-none test places =
       after = λ i a b. absurd (omega arith);
     }
 
-module _ (test : ℕ → Bool) (n count : ℕ) (places : List ℕ) (l : Listed test n count places) where
+module _ (test : ℕ → Bool) (n count : ℕ) (places : List ℕ) (l : PlacesOf test n count places) where
   -- a number that fails the test is not listed
-  pub listed-skip : test n ≡ false → Listed test (n + 1) count places
+  pub listed-skip : test n ≡ false → PlacesOf test (n + 1) count places
   listed-skip e =
       record {
         few = omega (arith, l .few);
@@ -54,7 +54,7 @@ module _ (test : ℕ → Bool) (n count : ℕ) (places : List ℕ) (l : Listed t
   reached-set v (suc j) h = ap suc (getD-set-other places count j v 0 (λ e. omega arith))
 
   -- any number may be
-  pub listed-push : count < length places → Listed test (n + 1) (count + 1) (set places count n)
+  pub listed-push : count < length places → PlacesOf test (n + 1) (count + 1) (set places count n)
   listed-push h =
       record {
         few = omega (arith, l .few);

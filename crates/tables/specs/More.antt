@@ -7,7 +7,7 @@ use Rattle.ledger.specs.declared.Actor.{Actor}
 use Rattle.tables.specs.declared.actors.Actors.{Actors}
 use Rattle.tables.specs.declared.categories.Category.{Category}
 use Rattle.tables.specs.declared.categories.Categories.{Categories}
-use Rattle.tables.specs.declared.loads.Loads.{Loads}
+use Rattle.tables.specs.Tables.{LoadColumns, loadColumns}
 
 abbrev pub moreActors : Actors → Actor → Actors
 moreActors x a = record { count = x .count + 1; entries = set (x .entries) (x .count) a }
@@ -15,9 +15,10 @@ moreActors x a = record { count = x .count + 1; entries = set (x .entries) (x .c
 abbrev pub moreCategories : Categories → Category → Categories
 moreCategories x z = record { count = x .count + 1; entries = set (x .entries) (x .count) z }
 
-abbrev pub moreLoads : Loads → ℕ → ℕ → Loads
-moreLoads x number most =
-    record { count = x .count + 1; keys = set (x .keys) (x .count) number; approved = set (x .approved) (x .count) most }
+-- one load more at place n
+abbrev pub loadPut : LoadColumns → ℕ → (number most : ℕ) → List ℕ → LoadColumns
+loadPut cols n number most row =
+    loadColumns (set (cols .keys) n number) (set (cols .approved) n most) (set (cols .rows) n row)
 
 -- the first n places of a list, each with what is given for it; every other place holds what it held
 unfoldable pub putTo : {A : Type 0} → (ℕ → A) → ℕ → List A → List A

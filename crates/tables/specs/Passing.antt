@@ -1,13 +1,12 @@
 -- What the functions that search and pass over the tables say of their results; they stand between code and contract.
 use mathlib.Core.Path.{_≡_}
-use mathlib.Core.Bool.{Bool, false, cond}
+use mathlib.Core.Bool.{Bool, true, false, cond}
 use mathlib.Core.List.{List, []}
 use Prim.Native.Nat.{ℕ, zero, suc, _+_, _*_, _/_, _<_, _≤_, min}
 use lib.Dec.{eqb, ltb}
 use lib.ListN.{getD, replicate}
 use Rattle.notification.specs.Forms.{places}
 use Rattle.ledger.specs.Ledger.{loadPlaces}
-use Rattle.tables.specs.declared.loads.Loads.{Loads}
 use Rattle.tables.specs.declared.loads.Found.{Found}
 use Rattle.tables.specs.declared.loads.Found.the-variants.{At, Nothing}
 
@@ -15,6 +14,11 @@ use Rattle.tables.specs.declared.loads.Found.the-variants.{At, Nothing}
 unfoldable pub lastBelow : (ℕ → Bool) → ℕ → Found
 lastBelow p zero = Nothing
 lastBelow p (suc n) = cond (p n) (At n) (lastBelow p n)
+
+-- something was found
+abbrev pub isAt : Found → Bool
+isAt (At i) = true
+isAt Nothing = false
 
 -- which of the n numbers from i on pass a test, a bit each and the first lowest
 unfoldable pub bitsFrom : (ℕ → Bool) → ℕ → ℕ → ℕ
@@ -29,7 +33,7 @@ reached places zero = 0
 reached places (suc j) = suc (getD places j 0)
 
 -- the numbers below n that are not among the first places of a list all fail a test
-pub record Listed (test : ℕ → Bool) (n count : ℕ) (places : List ℕ) : Type 0 where
+pub record PlacesOf (test : ℕ → Bool) (n count : ℕ) (places : List ℕ) : Type 0 where
   pub few : count ≤ n
   pub up : (j : ℕ) → j < count → reached places j ≤ getD places j 0
   pub below : (j : ℕ) → j < count → getD places j 0 < n
@@ -38,17 +42,17 @@ pub record Listed (test : ℕ → Bool) (n count : ℕ) (places : List ℕ) : Ty
 
 -- ---- loads and records
 
--- the newest load of a number, its approved power and its row
-unfoldable pub lastLoad : Loads → ℕ → Found
-lastLoad x number = lastBelow (λ i. eqb (getD (x .keys) i 0) number) (min (x .count) loadPlaces)
+-- the newest of n loads with a number, its row and its approved power
+unfoldable pub lastLoad : List ℕ → ℕ → ℕ → Found
+lastLoad keys n number = lastBelow (λ i. eqb (getD keys i 0) number) (min n loadPlaces)
 
 unfoldable pub loadRow : List (List ℕ) → Found → List ℕ
 loadRow rows (At i) = cond (ltb i loadPlaces) (getD rows i []) (replicate places 0)
 loadRow rows Nothing = replicate places 0
 
-unfoldable pub loadMost : Loads → Found → ℕ
-loadMost x (At i) = cond (ltb i loadPlaces) (getD (x .approved) i 0) 0
-loadMost x Nothing = 0
+unfoldable pub loadMost : List ℕ → Found → ℕ
+loadMost approved (At i) = cond (ltb i loadPlaces) (getD approved i 0) 0
+loadMost approved Nothing = 0
 
 -- record i is of the category and day that a market's number stands for
 abbrev pub inMarket : List ℕ → ℕ → ℕ → Bool

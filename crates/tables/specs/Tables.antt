@@ -1,5 +1,6 @@
--- What the tables hold: the entries below their counts, loads and records with the newest first. A count past the places
--- counts as full.
+-- What the tables hold: the entries below their counts, loads and records with the newest first. A count past the
+-- places counts as full. Actors and categories stand with their counts; loads and records stand in columns, one for
+-- each of their parts.
 use mathlib.Core.List.{List, [], _∷_, map}
 use Prim.Native.Nat.{ℕ, zero, suc, _+_, _*_, _/_, _%_, min}
 use lib.ListN.{getD, take}
@@ -9,8 +10,6 @@ use Rattle.ledger.specs.Ledger.{Load, Key, Rec, actorPlaces, categoryPlaces, lo
 use Rattle.tables.specs.declared.actors.Actors.{Actors}
 use Rattle.tables.specs.declared.categories.Category.{Category}
 use Rattle.tables.specs.declared.categories.Categories.{Categories}
-use Rattle.tables.specs.declared.loads.Loads.{Loads}
-use Rattle.tables.specs.declared.records.Records.{Records}
 
 -- what stands at the numbers below n, the last first
 abbrev pub downFrom : {A : Type 0} → (ℕ → A) → ℕ → List A
@@ -31,18 +30,25 @@ categoriesIn x = map (λ z. categoryText (z .text)) (take (min (x .count) catego
 abbrev pub loadNumber : ℕ → ℕ → ℕ → ℕ
 loadNumber actor category day = day * 32 + category * 8 + actor
 
-abbrev pub loadIn : Loads → List (List ℕ) → ℕ → Load
-loadIn x rows i =
-    record {
-      actor = getD (x .keys) i 0 % 8;
-      category = getD (x .keys) i 0 / 8 % 4;
-      day = getD (x .keys) i 0 / 32;
-      approved = getD (x .approved) i 0;
-      powers = getD rows i [];
-    }
+-- the load of such a number, an approved power and a row of powers
+abbrev pub loadFrom : ℕ → ℕ → List ℕ → Load
+loadFrom number most row =
+    record { actor = number % 8; category = number / 8 % 4; day = number / 32; approved = most; powers = row }
 
-unfoldable pub loadsIn : Loads → List (List ℕ) → List Load
-loadsIn x rows = downFrom (loadIn x rows) (min (x .count) loadPlaces)
+-- the loads' columns, which the caller lends: numbers, approved powers, rows of powers
+pub record LoadColumns : Type 0 where
+  pub keys : List ℕ
+  pub approved : List ℕ
+  pub rows : List (List ℕ)
+
+abbrev pub loadColumns : List ℕ → List ℕ → List (List ℕ) → LoadColumns
+loadColumns keys approved rows = record { keys = keys; approved = approved; rows = rows }
+
+abbrev pub loadIn : LoadColumns → ℕ → Load
+loadIn cols i = loadFrom (getD (cols .keys) i 0) (getD (cols .approved) i 0) (getD (cols .rows) i [])
+
+unfoldable pub loadsIn : ℕ → LoadColumns → List Load
+loadsIn n cols = downFrom (loadIn cols) (min n loadPlaces)
 
 -- RECORDS
 
@@ -50,26 +56,38 @@ loadsIn x rows = downFrom (loadIn x rows) (min (x .count) loadPlaces)
 abbrev pub keyNumber : ℕ → ℕ → ℕ → ℕ → ℕ
 keyNumber ceder acquirer category day = day * 256 + category * 64 + ceder * 8 + acquirer
 
-abbrev pub keyIn : ℕ → Key
-keyIn n = record { ceder = n / 8 % 8; acquirer = n % 8; category = n / 64 % 4; day = n / 256 }
+abbrev pub keyFrom : ℕ → Key
+keyFrom n = record { ceder = n / 8 % 8; acquirer = n % 8; category = n / 64 % 4; day = n / 256 }
 
--- the columns that the caller lends: keys, marks (submitter, from-step, until-step), rows of powers; and the loads' rows
+-- the record of an id, a status, a key's number, a mark (submitter, from-step, until-step) and a row of powers
+abbrev pub recOf : ℕ → ℕ → ℕ → List ℕ → List ℕ → Rec
+recOf id status key mark row =
+    record {
+      id = id;
+      submitter = getD mark 0 0;
+      key = keyFrom key;
+      status = status;
+      from = getD mark 1 0;
+      until = getD mark 2 0;
+      powers = row;
+    }
+
+-- the records' columns, which the caller lends
 pub record Columns : Type 0 where
+  pub statuses : List ℕ
+  pub ids : List ℕ
   pub keys : List ℕ
   pub marks : List (List ℕ)
   pub rows : List (List ℕ)
 
-abbrev pub recordIn : Records → Columns → ℕ → Rec
-recordIn x cols i =
-    record {
-      id = getD (x .ids) i 0;
-      submitter = getD (getD (cols .marks) i []) 0 0;
-      key = keyIn (getD (cols .keys) i 0);
-      status = getD (x .statuses) i 0;
-      from = getD (getD (cols .marks) i []) 1 0;
-      until = getD (getD (cols .marks) i []) 2 0;
-      powers = getD (cols .rows) i [];
-    }
+abbrev pub columns : List ℕ → List ℕ → List ℕ → List (List ℕ) → List (List ℕ) → Columns
+columns statuses ids keys marks rows =
+    record { statuses = statuses; ids = ids; keys = keys; marks = marks; rows = rows }
 
-unfoldable pub recordsIn : Records → Columns → List Rec
-recordsIn x cols = downFrom (recordIn x cols) (min (x .count) recordPlaces)
+abbrev pub recordIn : Columns → ℕ → Rec
+recordIn cols i =
+    recOf (getD (cols .ids) i 0) (getD (cols .statuses) i 0) (getD (cols .keys) i 0) (getD (cols .marks) i [])
+    (getD (cols .rows) i [])
+
+unfoldable pub recordsIn : ℕ → Columns → List Rec
+recordsIn n cols = downFrom (recordIn cols) (min n recordPlaces)

@@ -2,8 +2,7 @@
 ghost use mathlib.Core.Path.{_≡_};
 ghost use mathlib.Core.Bool.{true};
 ghost use mathlib.Core.List.{_++_, _∷_, []};
-ghost use Prim.Native.Nat.{_+_, _<_, _≤_};
-ghost use lib.ListN.{length, take};
+ghost use Prim.Native.Nat.{_<_};
 ghost use Rattle.lists.specs.Searches.{same};
 ghost use Rattle.notification.specs.Forms.{isCategory, sixBytes, categoryText};
 ghost use Rattle.ledger.specs.Ledger.{categoryAt};
@@ -78,7 +77,8 @@ impl Categories {
     // One category more, where there is a place.
     pub fn with(self, z: Category) -> Categories
         requires { ⌜ self .count < 4 ⌝ }
-        ensures { λ r. ⌜ (categoriesIn r ≡ categoriesIn self ++ (categoryText (z .text) ∷ [])) × (r ≡ moreCategories self z) ⌝ }
+        ensures { λ r. ⌜ (categoriesIn r ≡ categoriesIn self ++ (categoryText (z .text) ∷ []))
+            × (r ≡ moreCategories self z) ⌝ }
     {
         let mut next = self;
         let at = self.count;

@@ -4,3 +4,4 @@ pub mod categories;
 pub mod loads;
 pub mod markets;
 pub mod records;
+pub mod sizes;

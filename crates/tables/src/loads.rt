@@ -1,27 +1,19 @@
-// The loads: of each its actor, category and day as one number, its approved power, and its row of powers, which is lent.
+// The loads, in lent columns: of each its actor, category and day as one number, its approved power and its row of
+// powers.
 ghost use mathlib.Core.Path.{_≡_};
 ghost use mathlib.Core.Bool.{true};
-ghost use mathlib.Core.List.{List, _∷_};
-ghost use Prim.Native.Nat.{ℕ, _<_, _≤_, _+_, _-_, _*_, _%_, _/_, min};
+ghost use Prim.Native.Nat.{_<_, _≤_, _+_, _-_};
 ghost use lib.Dec.{eqb, leb};
-ghost use lib.ListN.{length, getD, set};
+ghost use lib.ListN.{length, getD};
 ghost use Rattle.lists.specs.Searches.{every};
 ghost use Rattle.notification.specs.Forms.{inPlaces};
-ghost use Rattle.tables.specs.More.{moreLoads};
-ghost use Rattle.tables.specs.Tables.{loadNumber, loadsIn};
-ghost use Rattle.tables.specs.Passing.{bitsFrom, lastBelow, lastLoad, loadRow};
+ghost use Rattle.tables.specs.Tables.{loadNumber};
+ghost use Rattle.tables.specs.Passing.{isAt, bitsFrom, lastLoad, loadRow, loadMost};
 use crate::actors::least;
+use crate::records::wide;
 
 // The places for loads.
 pub const LOADS: u32 = 64;
-
-// How many loads there are, their numbers and their approved powers; places past the count mean nothing.
-#[repr(C)]
-pub struct Loads {
-    pub count: u32,
-    pub keys: [u32; 64],
-    pub approved: [u16; 64],
-}
 
 // Where a load stands.
 pub enum Found {
@@ -50,7 +42,8 @@ fn none_of_four(keys: &[u32; 64], i: u32, number: u32) -> bool
 // Whether there are four numbers below i, and none of the last four is this one.
 fn passes_four(keys: &[u32; 64], i: u32, number: u32) -> bool
     requires { ⌜ i ≤ 64 ⌝ }
-    ensures { λ r. ⌜ (r ≡ true → (4 ≤ i) × (bitsFrom (λ k. eqb (getD (now (keys .entry)) k 0) number) (i - 4) 4 ≡ 0)) ⌝ }
+    ensures { λ r. ⌜ (r ≡ true →
+        (4 ≤ i) × (bitsFrom (λ k. eqb (getD (now (keys .entry)) k 0) number) (i - 4) 4 ≡ 0)) ⌝ }
 {
     if i < 4 {
         return false;
@@ -58,9 +51,9 @@ fn passes_four(keys: &[u32; 64], i: u32, number: u32) -> bool
     none_of_four(keys, i - 4, number)
 }
 
-// The last of the first n places with this number.
+// The newest of the first n loads with this number.
 pub fn last_of(keys: &[u32; 64], n: u32, number: u32) -> Found
-    ensures { λ r. ⌜ r ≡ lastBelow (λ i. eqb (getD (now (keys .entry)) i 0) number) (min n 64) ⌝ }
+    ensures { λ r. ⌜ r ≡ lastLoad (now (keys .entry)) n number ⌝ }
 {
     let mut i = least(n, LOADS);
     while passes_four(keys, i, number) {
@@ -75,25 +68,13 @@ pub fn last_of(keys: &[u32; 64], n: u32, number: u32) -> Found
     Found::Nothing
 }
 
-impl Loads {
-    // The newest load of this number.
-    pub fn find(self, number: u32) -> Found
-        ensures { λ r. ⌜ r ≡ lastLoad self number ⌝ }
-    {
-        last_of(&self.keys, self.count, number)
-    }
-
-    // One load more, where there is a place.
-    pub fn with(self, number: u32, most: u16) -> Loads
-        requires { ⌜ self .count < 64 ⌝ }
-        ensures { λ r. ⌜ ((rows : List (List ℕ)) (row : List ℕ) → length rows ≡ 64 → loadsIn r (set rows (self .count) row) ≡ record { actor = number % 8; category = number / 8 % 4; day = number / 32; approved = most; powers = row } ∷ loadsIn self rows) × (r ≡ moreLoads self number most) ⌝ }
-    {
-        let mut next = self;
-        let at = self.count;
-        next.keys[at as usize] = number;
-        next.approved[at as usize] = most;
-        next.count = at + 1;
-        next
+// Whether a load was found.
+pub fn is_at(at: Found) -> bool
+    ensures { λ r. ⌜ r ≡ isAt at ⌝ }
+{
+    match at {
+        Found::At(_) => true,
+        Found::Nothing => false,
     }
 }
 
@@ -112,11 +93,16 @@ pub fn row_at(rows: &[[u16; 50]; 64], at: Found) -> [u16; 50]
     }
 }
 
-// How many rows there are: the places for loads.
-pub fn rows_of(rows: &[[u16; 50]]) -> usize
-    ensures { λ r. ⌜ r ≡ length (now (rows .entry)) ⌝ }
+// The approved power of a load that was found, or 0.
+pub fn approved_of(approved: &[u16; 64], at: Found) -> u32
+    ensures { λ r. ⌜ (r ≡ loadMost (now (approved .entry)) at) × (r ≤ 65535) ⌝ }
 {
-    rows.len()
+    if let Found::At(i) = at {
+        if i < LOADS {
+            return wide(approved[i as usize]);
+        }
+    }
+    0
 }
 
 // Powers in their places, with 0 past them.

@@ -1,7 +1,7 @@
 // The records of one category and day among all: where the next of them stands.
 ghost use mathlib.Core.Path.{_≡_};
 ghost use mathlib.Core.Bool.{cond};
-ghost use Prim.Native.Nat.{ℕ, _≤_, _+_, _-_, _*_, min};
+ghost use Prim.Native.Nat.{_≤_, _+_, _-_, _*_, min};
 ghost use Rattle.lists.specs.Searches.{firstFrom};
 ghost use Rattle.tables.specs.Passing.{bitsFrom, inMarket};
 use crate::actors::least;

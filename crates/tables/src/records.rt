@@ -1,5 +1,5 @@
-// The records: of each its status and its id, and in lent columns its key, its mark (submitter, from-step, until-step) and its
-// row of powers.
+// The records, in lent columns: of each its status, its id, its key, its mark (submitter, from-step, until-step) and
+// its row of powers.
 ghost use mathlib.Core.Path.{_≡_};
 ghost use Prim.Native.Nat.{_<_, _≤_};
 ghost use Rattle.tables.specs.Tables.{keyNumber};
@@ -19,14 +19,6 @@ pub const VALIDATED: u8 = b'V';
 pub const UPDATED: u8 = b'P';
 
 pub const OBSOLETE: u8 = b'O';
-
-// How many records there are, their statuses and their ids; places past the count mean nothing.
-#[repr(C)]
-pub struct Records {
-    pub count: u32,
-    pub statuses: [u8; 256],
-    pub ids: [u32; 256],
-}
 
 // Ceder, acquirer, category and day of a key as one number.
 pub fn key_number(ceder: u32, acquirer: u32, category: u32, day: u32) -> u32

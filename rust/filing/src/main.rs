@@ -109,7 +109,8 @@ fn compare(start: &Both, n: &Notification) {
 }
 
 fn all() {
-    println!("proved {} bytes of state, peer {} bytes", size_of::<Register>(), size_of::<peer::register::Register>());
+    let (ours, peers) = (size_of::<Register>(), size_of::<peer::register::Register>());
+    println!("bytes copied a call: {}, state {ours} bytes, peer's {peers}", size_of::<register::ffi::Head>());
     for (name, held, paired) in CASES {
         let (start, n) = Both::fixture(held, paired);
         compare(&start, &n);

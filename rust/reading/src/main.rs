@@ -4,26 +4,11 @@ use std::hint::black_box;
 use std::time::Instant;
 
 use peer::notification::{read, write, Notification};
-
-#[repr(C)]
-struct FileRead {
-    number: u32,
-    place: u32,
-    day: u32,
-    steps: u32,
-    powers: [u16; 50],
-    ceder: [u8; 16],
-    acquirer: [u8; 16],
-    category: [u8; 6],
-}
-
-extern "C" {
-    fn notification_read(name: *const u8, name_len: usize, body: *const u8, body_len: usize) -> FileRead;
-}
+use register::ffi::{self, FileRead};
 
 #[inline(never)]
 fn proved_reader(name: &[u8], body: &[u8]) -> FileRead {
-    unsafe { notification_read(name.as_ptr(), name.len(), body.as_ptr(), body.len()) }
+    ffi::read(name, body)
 }
 
 #[inline(never)]

@@ -43,33 +43,50 @@ pub struct Categories {
     pub entries: [Category; 4],
 }
 
-/// Actor, category and day of each load as one number, and its approved power.
-#[repr(C)]
-#[derive(Clone, Copy, PartialEq, Eq)]
-pub struct Loads {
-    pub count: u32,
-    pub keys: [u32; 64],
-    pub approved: [u16; 64],
-}
-
-#[repr(C)]
-#[derive(Clone, Copy, PartialEq, Eq)]
-pub struct Records {
-    pub count: u32,
-    pub statuses: [u8; 256],
-    pub ids: [u32; 256],
-}
-
-/// The part of a register that goes by value. C places an argument of this size at a multiple of 8 anyway; said here, it is copied
-/// by eight bytes.
+/// The part of a register that goes by value: the clock, who is enrolled, and how many loads and records there are. C places an
+/// argument of this size at a multiple of 8 anyway; said here, it is copied by eight bytes.
 #[repr(C, align(8))]
 #[derive(Clone, Copy, PartialEq, Eq)]
 pub struct Head {
     pub clock: Clock,
     pub actors: Actors,
     pub categories: Categories,
-    pub loads: Loads,
-    pub records: Records,
+    pub loads: u32,
+    pub records: u32,
+}
+
+/// The columns that are lent, of the records: status, id, key, mark and powers.
+pub type Statuses = [u8; 256];
+pub type Ids = [u32; 256];
+pub type Keys = [u32; 256];
+pub type Marks = [[u8; 4]; 256];
+pub type Rows = [[u16; 50]; 256];
+/// And of the loads: number, approved power and powers.
+pub type Numbers = [u32; 64];
+pub type Approved = [u16; 64];
+pub type LoadRows = [[u16; 50]; 64];
+
+/// The register: its head and its columns, in the order of C's `register_state`.
+#[repr(C)]
+#[derive(Clone, PartialEq, Eq)]
+pub struct State {
+    pub head: Head,
+    pub statuses: Statuses,
+    pub ids: Ids,
+    pub keys: Keys,
+    pub marks: Marks,
+    pub rows: Rows,
+    pub numbers: Numbers,
+    pub approved: Approved,
+    pub loads: LoadRows,
+}
+
+/// A fresh register's head, and the statuses and ids of its records.
+#[repr(C)]
+pub struct Fresh {
+    pub head: Head,
+    pub statuses: Statuses,
+    pub ids: Ids,
 }
 
 /// Number and place of the refusal, 0 and 0 where there is none; how many values there are, which of them is a status's letter (3: none),
@@ -136,24 +153,20 @@ pub struct DateText {
     pub digits: [u8; 8],
 }
 
-/// The records' columns that the caller lends.
-pub type Keys = [u32; 256];
-pub type Marks = [[u8; 4]; 256];
-pub type Rows = [[u16; 50]; 256];
-/// The loads' powers.
-pub type LoadRows = [[u16; 50]; 64];
-
 // Sizes and places as c/register.h asserts them too: a field that is moved on one side alone is found when either is compiled.
 const _: () = {
     assert!(size_of::<Clock>() == 8 && size_of::<Actor>() == 24 && size_of::<Actors>() == 196);
     assert!(size_of::<Category>() == 6 && size_of::<Categories>() == 28);
-    assert!(size_of::<Loads>() == 388 && offset_of!(Loads, approved) == 260);
-    assert!(size_of::<Records>() == 1284 && offset_of!(Records, ids) == 260);
-    assert!(size_of::<Head>() == 1904 && offset_of!(Head, actors) == 8 && offset_of!(Head, categories) == 204);
-    assert!(offset_of!(Head, loads) == 232 && offset_of!(Head, records) == 620);
+    assert!(size_of::<Head>() == 240 && offset_of!(Head, actors) == 8 && offset_of!(Head, categories) == 204);
+    assert!(offset_of!(Head, loads) == 232 && offset_of!(Head, records) == 236);
+    assert!(size_of::<State>() == 35952 && offset_of!(State, statuses) == 240 && offset_of!(State, ids) == 496);
+    assert!(offset_of!(State, keys) == 1520 && offset_of!(State, marks) == 2544 && offset_of!(State, rows) == 3568);
+    assert!(offset_of!(State, numbers) == 29168 && offset_of!(State, approved) == 29424);
+    assert!(offset_of!(State, loads) == 29552);
+    assert!(size_of::<Fresh>() == 1520 && offset_of!(Fresh, statuses) == 240 && offset_of!(Fresh, ids) == 496);
     assert!(size_of::<Said>() == 28 && offset_of!(Said, values) == 16);
-    // C's struct ends with `said`, at 1932; here four bytes more follow it, which nobody writes.
-    assert!(size_of::<Turn>() == 1936 && offset_of!(Turn, said) == 1904);
+    // C's struct ends with `said`, at 268; here four bytes more follow it, which nobody writes.
+    assert!(size_of::<Turn>() == 272 && offset_of!(Turn, said) == 240);
     assert!(size_of::<RecordShown>() == 180 && offset_of!(RecordShown, powers) == 24);
     assert!(offset_of!(RecordShown, submitter) == 124 && offset_of!(RecordShown, ceder) == 140);
     assert!(offset_of!(RecordShown, acquirer) == 156 && offset_of!(RecordShown, category) == 172);
@@ -162,35 +175,36 @@ const _: () = {
     assert!(offset_of!(FileRead, acquirer) == 132 && offset_of!(FileRead, category) == 148);
     assert!(size_of::<FileWritten>() == 8 + 2 * size_of::<usize>() && offset_of!(FileWritten, name) == 8);
     assert!(size_of::<DateText>() == 8);
-    assert!(size_of::<Keys>() == 1024 && size_of::<Marks>() == 1024);
-    assert!(size_of::<Rows>() == 25600 && size_of::<LoadRows>() == 6400);
 };
 
 // SAFETY: these are the functions of crates/register_c/src with their types. A reference to an array is one pointer there, a
 // slice a pointer and a length. The `safe` ones take no slice, so that every argument that Rust lets pass is a good one: they are
 // total, and write nothing but their result and what they are lent as `&mut`.
 unsafe extern "C" {
-    pub safe fn register_fresh() -> Head;
-    fn register_enrol_actor(head: Head, code: *const u8, code_len: usize, first: u32, last: u32) -> Turn;
-    fn register_enrol_category(head: Head, text: *const u8, text_len: usize) -> Turn;
-    fn register_load(
-        head: Head, loads: &mut LoadRows, actor: *const u8, actor_len: usize, category: *const u8, category_len: usize,
-        day: u32, approved: u32, powers: *const u32, powers_len: usize,
+    pub safe fn register_head_fresh() -> Fresh;
+    fn register_head_enrol_actor(head: Head, code: *const u8, code_len: usize, first: u32, last: u32) -> Turn;
+    fn register_head_enrol_category(head: Head, text: *const u8, text_len: usize) -> Turn;
+    fn register_head_load(
+        head: Head, numbers: &mut Numbers, approved: &mut Approved, loads: &mut LoadRows, actor: *const u8,
+        actor_len: usize, category: *const u8, category_len: usize, day: u32, most: u32, powers: *const u32,
+        powers_len: usize,
     ) -> Turn;
-    fn register_file(
-        head: Head, keys: &mut Keys, marks: &mut Marks, rows: &mut Rows, loads: &LoadRows, submitter: *const u8,
-        submitter_len: usize, name: *const u8, name_len: usize, body: *const u8, body_len: usize,
+    fn register_head_file(
+        head: Head, statuses: &mut Statuses, ids: &mut Ids, keys: &mut Keys, marks: &mut Marks, rows: &mut Rows,
+        numbers: &Numbers, approved: &Approved, loads: &LoadRows, submitter: *const u8, submitter_len: usize,
+        name: *const u8, name_len: usize, body: *const u8, body_len: usize,
     ) -> Turn;
-    pub safe fn register_advance(head: Head, day: u32, minute: u32) -> Turn;
-    fn register_engagement(
-        head: Head, keys: &Keys, marks: &Marks, rows: &Rows, loads: &LoadRows, actor: *const u8, actor_len: usize,
-        category: *const u8, category_len: usize, day: u32, step: u32,
+    pub safe fn register_head_advance(head: Head, day: u32, minute: u32) -> Turn;
+    fn register_head_engagement(
+        head: Head, statuses: &Statuses, keys: &Keys, marks: &Marks, rows: &Rows, numbers: &Numbers, loads: &LoadRows,
+        actor: *const u8, actor_len: usize, category: *const u8, category_len: usize, day: u32, step: u32,
     ) -> Said;
-    fn register_record(
-        head: Head, keys: &Keys, marks: &Marks, rows: &Rows, asker: *const u8, asker_len: usize, id: u32,
+    fn register_head_record(
+        head: Head, statuses: &Statuses, ids: &Ids, keys: &Keys, marks: &Marks, rows: &Rows, asker: *const u8,
+        asker_len: usize, id: u32,
     ) -> RecordShown;
-    fn register_history(
-        head: Head, keys: &Keys, actor: *const u8, actor_len: usize, ids: *mut u32, ids_len: usize,
+    fn register_head_history(
+        head: Head, ids: &Ids, keys: &Keys, actor: *const u8, actor_len: usize, out: *mut u32, out_len: usize,
     ) -> Said;
     fn notification_read(name: *const u8, name_len: usize, body: *const u8, body_len: usize) -> FileRead;
     fn notification_write(n: FileRead, name: *mut u8, name_len: usize, body: *mut u8, body_len: usize) -> FileWritten;
@@ -200,33 +214,33 @@ unsafe extern "C" {
 }
 
 #[inline]
-pub fn enrol_actor(head: &Head, code: &[u8], first: u32, last: u32) -> Turn {
+pub fn enrol_actor(r: &State, code: &[u8], first: u32, last: u32) -> Turn {
     // SAFETY: the pointer and the length are those of one slice, which lives past the call and is only read.
-    unsafe { register_enrol_actor(*head, code.as_ptr(), code.len(), first, last) }
+    unsafe { register_head_enrol_actor(r.head, code.as_ptr(), code.len(), first, last) }
 }
 
 #[inline]
-pub fn enrol_category(head: &Head, text: &[u8]) -> Turn {
+pub fn enrol_category(r: &State, text: &[u8]) -> Turn {
     // SAFETY: the pointer and the length are those of one slice, which lives past the call and is only read.
-    unsafe { register_enrol_category(*head, text.as_ptr(), text.len()) }
+    unsafe { register_head_enrol_category(r.head, text.as_ptr(), text.len()) }
 }
 
 #[inline]
-pub fn load(
-    head: &Head, loads: &mut LoadRows, actor: &[u8], category: &[u8], day: u32, approved: u32, powers: &[u32],
-) -> Turn {
-    // SAFETY: each pointer stands with the length of its own slice; the slices live past the call and are only read. `loads` is
+pub fn load(r: &mut State, actor: &[u8], category: &[u8], day: u32, most: u32, powers: &[u32]) -> Turn {
+    // SAFETY: each pointer stands with the length of its own slice; the slices live past the call and are only read. The columns are
     // borrowed alone.
     unsafe {
-        register_load(
-            *head,
-            loads,
+        register_head_load(
+            r.head,
+            &mut r.numbers,
+            &mut r.approved,
+            &mut r.loads,
             actor.as_ptr(),
             actor.len(),
             category.as_ptr(),
             category.len(),
             day,
-            approved,
+            most,
             powers.as_ptr(),
             powers.len(),
         )
@@ -234,20 +248,20 @@ pub fn load(
 }
 
 #[inline]
-#[allow(clippy::too_many_arguments)]
-pub fn file(
-    head: &Head, keys: &mut Keys, marks: &mut Marks, rows: &mut Rows, loads: &LoadRows, submitter: &[u8], name: &[u8],
-    body: &[u8],
-) -> Turn {
+pub fn file(r: &mut State, submitter: &[u8], name: &[u8], body: &[u8]) -> Turn {
     // SAFETY: each pointer stands with the length of its own slice; the slices live past the call and are only read. The columns are
     // borrowed alone.
     unsafe {
-        register_file(
-            *head,
-            keys,
-            marks,
-            rows,
-            loads,
+        register_head_file(
+            r.head,
+            &mut r.statuses,
+            &mut r.ids,
+            &mut r.keys,
+            &mut r.marks,
+            &mut r.rows,
+            &r.numbers,
+            &r.approved,
+            &r.loads,
             submitter.as_ptr(),
             submitter.len(),
             name.as_ptr(),
@@ -259,19 +273,17 @@ pub fn file(
 }
 
 #[inline]
-#[allow(clippy::too_many_arguments)]
-pub fn engagement(
-    head: &Head, keys: &Keys, marks: &Marks, rows: &Rows, loads: &LoadRows, actor: &[u8], category: &[u8], day: u32,
-    step: u32,
-) -> Said {
+pub fn engagement(r: &State, actor: &[u8], category: &[u8], day: u32, step: u32) -> Said {
     // SAFETY: each pointer stands with the length of its own slice; the slices live past the call and are only read.
     unsafe {
-        register_engagement(
-            *head,
-            keys,
-            marks,
-            rows,
-            loads,
+        register_head_engagement(
+            r.head,
+            &r.statuses,
+            &r.keys,
+            &r.marks,
+            &r.rows,
+            &r.numbers,
+            &r.loads,
             actor.as_ptr(),
             actor.len(),
             category.as_ptr(),
@@ -283,16 +295,17 @@ pub fn engagement(
 }
 
 #[inline]
-pub fn record(head: &Head, keys: &Keys, marks: &Marks, rows: &Rows, asker: &[u8], id: u32) -> RecordShown {
+pub fn record(r: &State, asker: &[u8], id: u32) -> RecordShown {
+    let State { head, statuses, ids, keys, marks, rows, .. } = r;
     // SAFETY: the pointer and the length are those of one slice, which lives past the call and is only read.
-    unsafe { register_record(*head, keys, marks, rows, asker.as_ptr(), asker.len(), id) }
+    unsafe { register_head_record(*head, statuses, ids, keys, marks, rows, asker.as_ptr(), asker.len(), id) }
 }
 
 #[inline]
-pub fn history(head: &Head, keys: &Keys, actor: &[u8], ids: &mut [u32]) -> Said {
-    // SAFETY: each pointer stands with the length of its own slice; both live past the call, `actor` is only read and `ids` is borrowed
+pub fn history(r: &State, actor: &[u8], out: &mut [u32]) -> Said {
+    // SAFETY: each pointer stands with the length of its own slice; both live past the call, `actor` is only read and `out` is borrowed
     // alone.
-    unsafe { register_history(*head, keys, actor.as_ptr(), actor.len(), ids.as_mut_ptr(), ids.len()) }
+    unsafe { register_head_history(r.head, &r.ids, &r.keys, actor.as_ptr(), actor.len(), out.as_mut_ptr(), out.len()) }
 }
 
 #[inline]

@@ -51,7 +51,8 @@
 #![deny(missing_docs, unsafe_code)]
 
 mod day;
-mod ffi;
+#[doc(hidden)] // for the benchmarks, which measure the library's own functions and structs
+pub mod ffi;
 mod notification;
 mod record;
 mod refusal;
@@ -86,25 +87,19 @@ impl ffi::Said {
 ///
 /// Two registers are equal if they hold the same, as they do after the same calls. A clone is a register of its own.
 #[derive(Clone, PartialEq, Eq)]
-pub struct Register {
-    head: ffi::Head,
-    keys: ffi::Keys,
-    marks: ffi::Marks,
-    rows: ffi::Rows,
-    loads: ffi::LoadRows,
-}
+pub struct Register(ffi::State);
 
 /// The clock and how much there is of everything.
 impl fmt::Debug for Register {
     fn fmt(&self, f: &mut fmt::Formatter<'_>) -> fmt::Result {
-        let ffi::Head { clock, actors, categories, loads, records } = &self.head;
+        let ffi::Head { clock, actors, categories, loads, records } = &self.0.head;
         f.debug_struct("Register")
             .field("day", &Day(clock.day))
             .field("minute", &clock.minute)
             .field("actors", &actors.count)
             .field("categories", &categories.count)
-            .field("loads", &loads.count)
-            .field("records", &records.count)
+            .field("loads", loads)
+            .field("records", records)
             .finish()
     }
 }
@@ -118,40 +113,44 @@ impl Default for Register {
 impl Register {
     /// A fresh register: nothing is enrolled, loaded or filed, and the clock stands at day 0, minute 0.
     pub fn new() -> Register {
-        Register {
-            head: ffi::register_fresh(),
+        let ffi::Fresh { head, statuses, ids } = ffi::register_head_fresh();
+        Register(ffi::State {
+            head,
+            statuses,
+            ids,
             keys: [0; 256],
             marks: [[0; 4]; 256],
             rows: [[0; STEPS]; 256],
+            numbers: [0; 64],
+            approved: [0; 64],
             loads: [[0; STEPS]; 64],
-        }
+        })
     }
 
-    /// Takes over the head that an accepted call leaves; a refused one leaves the head that it was given.
+    /// Keeps the head that a call leaves, and gives what it says.
     #[inline]
-    fn take(&mut self, turn: &ffi::Turn) -> Result<[u32; 3], Refusal> {
-        let values = turn.said.accepted()?;
-        self.head = turn.head;
-        Ok(values)
+    fn keep(&mut self, turn: &ffi::Turn) -> Result<[u32; 3], Refusal> {
+        self.0.head = turn.head;
+        turn.said.accepted()
     }
 
     /// Moves the clock to a day and an elapsed minute; the same moment is accepted. Refused by 10 and 38.
     pub fn advance(&mut self, day: Day, minute: u32) -> Result<(), Refusal> {
-        let turn = ffi::register_advance(self.head, day.0, minute);
-        self.take(&turn).map(|_| ())
+        let turn = ffi::register_head_advance(self.0.head, day.0, minute);
+        self.keep(&turn).map(|_| ())
     }
 
     /// Enrols an actor by its EIC code, with a contract from a first to a last day, both included, and gives how many actors there now
     /// are. Refused by 9, 10, 37 and 36.
     pub fn enrol_actor(&mut self, code: impl AsRef<[u8]>, first: Day, last: Day) -> Result<u32, Refusal> {
-        let turn = ffi::enrol_actor(&self.head, code.as_ref(), first.0, last.0);
-        self.take(&turn).map(|values| values[0])
+        let turn = ffi::enrol_actor(&self.0, code.as_ref(), first.0, last.0);
+        self.keep(&turn).map(|values| values[0])
     }
 
     /// Enrols a category and gives how many categories there now are. Refused by 9, 37 and 36.
     pub fn enrol_category(&mut self, category: impl AsRef<[u8]>) -> Result<u32, Refusal> {
-        let turn = ffi::enrol_category(&self.head, category.as_ref());
-        self.take(&turn).map(|values| values[0])
+        let turn = ffi::enrol_category(&self.0, category.as_ref());
+        self.keep(&turn).map(|values| values[0])
     }
 
     /// Gives one actor, category and day an approved power and one loaded power for each step, none above the approved one; answers how
@@ -160,8 +159,8 @@ impl Register {
         &mut self, actor: impl AsRef<[u8]>, category: impl AsRef<[u8]>, day: Day, approved: u32, powers: &[u32],
     ) -> Result<u32, Refusal> {
         let (actor, category) = (actor.as_ref(), category.as_ref());
-        let turn = ffi::load(&self.head, &mut self.loads, actor, category, day.0, approved, powers);
-        self.take(&turn).map(|values| values[0])
+        let turn = ffi::load(&mut self.0, actor, category, day.0, approved, powers);
+        self.keep(&turn).map(|values| values[0])
     }
 
     /// Files a notification: the submitter's code, the file's name and its body. An accepted filing makes one record. Refused by 1 to 8,
@@ -170,9 +169,8 @@ impl Register {
         &mut self, submitter: impl AsRef<[u8]>, name: impl AsRef<[u8]>, body: impl AsRef<[u8]>,
     ) -> Result<Filed, Refusal> {
         let (submitter, name, body) = (submitter.as_ref(), name.as_ref(), body.as_ref());
-        let Register { head, keys, marks, rows, loads } = self;
-        let turn = ffi::file(head, keys, marks, rows, loads, submitter, name, body);
-        let [id, letter, from] = self.take(&turn)?;
+        let turn = ffi::file(&mut self.0, submitter, name, body);
+        let [id, letter, from] = self.keep(&turn)?;
         Ok(Filed { id, status: Status::known(letter), from })
     }
 
@@ -181,14 +179,13 @@ impl Register {
         &self, actor: impl AsRef<[u8]>, category: impl AsRef<[u8]>, day: Day, step: u32,
     ) -> Result<u32, Refusal> {
         let (actor, category) = (actor.as_ref(), category.as_ref());
-        let Register { head, keys, marks, rows, loads } = self;
-        let said = ffi::engagement(head, keys, marks, rows, loads, actor, category, day.0, step);
+        let said = ffi::engagement(&self.0, actor, category, day.0, step);
         said.accepted().map(|values| values[0])
     }
 
     /// A record by its id, for an actor who is ceder or acquirer of it. Refused by 22, 40 and 41.
     pub fn record(&self, asker: impl AsRef<[u8]>, id: u32) -> Result<Record, Refusal> {
-        let shown = ffi::record(&self.head, &self.keys, &self.marks, &self.rows, asker.as_ref(), id);
+        let shown = ffi::record(&self.0, asker.as_ref(), id);
         Refusal::unless_accepted(shown.number, shown.place)?;
         let notification = Notification {
             ceder: Code(shown.ceder),
@@ -205,7 +202,7 @@ impl Register {
     /// Puts the ids of all records of which the actor is ceder or acquirer into the lent buffer, each once, and gives how many they are.
     /// The rest of the buffer, and all of it beside a refusal, is left as it was. Refused by 22 and 36; a buffer of 256 is enough.
     pub fn history(&self, actor: impl AsRef<[u8]>, ids: &mut [u32]) -> Result<usize, Refusal> {
-        let said = ffi::history(&self.head, &self.keys, actor.as_ref(), ids);
+        let said = ffi::history(&self.0, actor.as_ref(), ids);
         said.accepted().map(|values| values[0] as usize)
     }
 }

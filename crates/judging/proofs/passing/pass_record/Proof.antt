@@ -1,9 +1,9 @@
--- A record under the filing's own key is noted; another one turns both nets, or moves nothing for the two.
+-- A record under the filing's own key is noted; another one is applied to both nets, or moves nothing for the two.
 use borrow.Author.Tests.{eq-eqb, ne-eqb}
 use mathlib.Core.Path.{sym, _∙_}
 use native.Mathlib.Omega.{arith}
-use Rattle.tables.specs.Tables.{Columns}
-use Rattle.judging.proofs.Passed.{passed-under, passed-still, passed-turned}
+use Rattle.tables.specs.Tables.{columns}
+use Rattle.judging.proofs.Passed.{passed-under, passed-still, passed-applied}
 use borrow.Author.Needs.{needs}
 use Rattle.judging.proofs.passing.pass_record.Statement.{statement}
 use Rattle.judging.proofs.passing.pass_record.Tie as tie
@@ -27,8 +27,9 @@ returns : tie.Need-returns
 returns c =
     let a = c .before .before .args in
     let p = c .before .before .pre in
-    let cols : Columns = record { keys = a .keys .now; marks = a .marks .now; rows = a .rows .now } in
-    passed-under cols (a .statuses .now) (a .own) (a .first) (a .until) (a .i) (a .ceder .now) (a .acquirer .now) (a .places .now) (a .count)
+    λ ids.
+    let cols = columns (a .statuses .now) ids (a .keys .now) (a .marks .now) (a .rows .now) in
+    passed-under cols (a .own) (a .first) (a .until) (a .i) (a .ceder .now) (a .acquirer .now) (a .places .now) (a .count)
     (eq-eqb _ _ (c .if1 .taken)) (omega (arith, p .2))
 
 element-copy-out-is-concerned : tie.Need-element-copy-out-is-concerned
@@ -43,25 +44,27 @@ mul-mark c = search needs
 element-copy-out-mark : tie.Need-element-copy-out-mark
 element-copy-out-mark c = search needs
 
-turn-requires : tie.Need-turn-requires
-turn-requires c κs = search needs
+apply-record-requires : tie.Need-apply-record-requires
+apply-record-requires c κs = search needs
 
-turn-requires-2 : tie.Need-turn-requires-2
-turn-requires-2 c κs = search needs
+apply-record-requires-2 : tie.Need-apply-record-requires-2
+apply-record-requires-2 c κs = search needs
 
 returns-2 : tie.Need-returns-2
 returns-2 c =
     let b = c .before .before .before .before .before .before .before .before .before .before in
     let a = b .args in
-    let cols : Columns = record { keys = a .keys .now; marks = a .marks .now; rows = a .rows .now } in
-    passed-turned cols (a .statuses .now) (a .own) (a .first) (a .until) (a .i) (a .ceder .now) (a .acquirer .now) (a .places .now) (a .count)
-    (b .pre .1) (ne-eqb _ _ (c .before .before .before .before .before .before .before .before .if1 .left)) (sym (c .before .before .before .before .before .before .is-concerned .ensures) ∙ c .before .before .before .before .before .if2 .taken) _ _ (c .before .before .turn .ensures) (c .turn2 .ensures)
+    λ ids.
+    let cols = columns (a .statuses .now) ids (a .keys .now) (a .marks .now) (a .rows .now) in
+    passed-applied cols (a .own) (a .first) (a .until) (a .i) (a .ceder .now) (a .acquirer .now) (a .places .now) (a .count)
+    (b .pre .1) (ne-eqb _ _ (c .before .before .before .before .before .before .before .before .if1 .left)) (sym (c .before .before .before .before .before .before .is-concerned .ensures) ∙ c .before .before .before .before .before .if2 .taken) _ _ (c .before .before .apply-record .ensures) (c .apply-record2 .ensures)
 
 returns-3 : tie.Need-returns-3
 returns-3 c =
     let a = c .before .before .before .before .before .args in
-    let cols : Columns = record { keys = a .keys .now; marks = a .marks .now; rows = a .rows .now } in
-    passed-still cols (a .statuses .now) (a .own) (a .first) (a .until) (a .i) (a .ceder .now) (a .acquirer .now) (a .places .now) (a .count)
+    λ ids.
+    let cols = columns (a .statuses .now) ids (a .keys .now) (a .marks .now) (a .rows .now) in
+    passed-still cols (a .own) (a .first) (a .until) (a .i) (a .ceder .now) (a .acquirer .now) (a .places .now) (a .count)
     (ne-eqb _ _ (c .before .before .before .if1 .left)) (sym (c .before .is-concerned .ensures) ∙ c .if2 .left)
 
 pub pass-record-spec : {M : Type 1} → statement M
@@ -78,7 +81,7 @@ pass-record-spec =
     is-concerned-requires
     mul-mark
     element-copy-out-mark
-    turn-requires
-    turn-requires-2
+    apply-record-requires
+    apply-record-requires-2
     returns-2
     returns-3)

@@ -51,7 +51,7 @@ returns : tie.Need-returns
 returns c =
     let p = c .before .before .before .before .before .before .before .args in
     let status = getD (p .statuses .now) (p .i) 0 in (
-      (λ keys. c .wide .ensures .0 ∙ moved-there (eqb status validated || eqb status updated) _ _ _ _ (p .s) _
+      (λ ids keys. c .wide .ensures .0 ∙ moved-there (eqb status validated || eqb status updated) _ _ _ _ (p .s) _
           (c .before .before .before .before .byte .ensures .0) (c .before .before .before .byte2 .ensures .0) (c .before .before .if1 .taken)),
       c .wide .ensures .1,
     )
@@ -60,7 +60,7 @@ returns-2 : tie.Need-returns-2
 returns-2 c =
     let p = c .before .before .before .before .before .args in
     let status = getD (p .statuses .now) (p .i) 0 in (
-      (λ keys. moved-nothing (eqb status validated || eqb status updated) _ _ _ _ (p .s) (getD (getD (p .rows .now) (p .i) []) (p .s) 0)
+      (λ ids keys. moved-nothing (eqb status validated || eqb status updated) _ _ _ _ (p .s) (getD (getD (p .rows .now) (p .i) []) (p .s) 0)
           (c .before .before .byte .ensures .0) (c .before .byte2 .ensures .0) (c .if1 .left)),
       omega arith,
     )

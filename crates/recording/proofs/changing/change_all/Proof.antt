@@ -1,10 +1,11 @@
 -- `changing::change_all` meets its contract: the records below the place reached are changed, and the others are what they were.
 use mathlib.Core.Path.{_≡_, subst}
+use mathlib.Core.List.{List}
 use Prim.Native.Nat.{ℕ, _≤_, _<_, _-_}
 use native.Mathlib.Omega.{arith}
 use lib.ListN.{length}
-use Rattle.tables.specs.Tables.{Columns}
-use Rattle.tables.specs.Passing.{isUnder, reached, Listed}
+use Rattle.tables.specs.Tables.{columns}
+use Rattle.tables.specs.Passing.{isUnder, reached, PlacesOf}
 use Rattle.tables.proofs.Listing.{listed-end}
 use Rattle.recording.specs.Recording.{Changed}
 use Rattle.recording.proofs.Changes.{changed-none, changed-same, changed-listed}
@@ -15,26 +16,26 @@ use Rattle.recording.proofs.changing.change_all.Tie as tie
 abbrev Inv-loop : tie.InvT-loop
 Inv-loop statuses₀ keys marks₀ rows places count paired clock by own ps all-statuses all-marks j₀ statuses marks j =
     (j ≤ count) × (length statuses₀ ≡ 256) × (length marks₀ ≡ 256)
-    × ((n : ℕ) → Listed (isUnder keys own) n count places → Changed paired clock by own ps (reached places j)
-    (record { keys = keys; marks = marks₀; rows = rows }) (record { keys = keys; marks = marks; rows = rows }) statuses₀ statuses)
+    × ((ids : List ℕ) (n : ℕ) → PlacesOf (isUnder keys own) n count places →
+    Changed paired clock by own ps (reached places j) (columns statuses₀ ids keys marks₀ rows) statuses marks)
 
 abbrev μ-loop : tie.MeasureT-loop
 μ-loop statuses₀ keys marks₀ rows places count paired clock by own ps all-statuses all-marks j₀ statuses marks j = count - j
 
-statuses-long-requires : tie.Need-statuses-long-requires Inv-loop μ-loop
-statuses-long-requires c κs = search needs
+size-u8-requires : tie.Need-size-u8-requires Inv-loop μ-loop
+size-u8-requires c κs = search needs
 
-marks-long-requires : tie.Need-marks-long-requires Inv-loop μ-loop
-marks-long-requires c κs = search needs
+size-marks-requires : tie.Need-size-marks-requires Inv-loop μ-loop
+size-marks-requires c κs = search needs
 
 loop-holds : tie.Need-loop-holds Inv-loop μ-loop
 loop-holds c =
     let p = c .before .before .before .before .before .before .args in (
       omega arith,
-      c .before .before .before .before .statuses-long-arg2 .given .0,
-      c .before .marks-long-arg2 .given .0,
-      (λ n l. changed-none (p .paired) (p .clock) (p .by) (p .own) (p .ps)
-          (record { keys = p .keys .now; marks = p .marks .now; rows = p .rows .now }) (p .statuses .now)),
+      c .before .before .before .before .size-u8-arg2 .given .0,
+      c .before .size-marks-arg2 .given .0,
+      (λ ids n l. changed-none (p .paired) (p .clock) (p .by) (p .own) (p .ps)
+          (columns (p .statuses .now) ids (p .keys .now) (p .marks .now) (p .rows .now))),
     )
 
 cast-byte : tie.Need-cast-byte Inv-loop μ-loop
@@ -66,23 +67,24 @@ loop-again c =
       omega arith,
       q .inv .1,
       q .inv .2,
-      (λ n l.
-          changed-listed (p .paired) (p .clock) (p .by) (p .own) (p .ps) n (p .count) (q .j) i (p .places .now) (p .keys .now) (p .statuses .now)
-          (q .statuses) _ (p .rows .now) (p .marks .now) (q .marks) _ l (omega arith) (c .before .before .before .byte .ensures .0) h m (q .inv .3 n l) (c .change-at .ensures)),
+      (λ ids n l.
+          let cols = columns (p .statuses .now) ids (p .keys .now) (p .marks .now) (p .rows .now) in
+          changed-listed (p .paired) (p .clock) (p .by) (p .own) (p .ps) cols n (p .count) (q .j) i (p .places .now)
+          (q .statuses) _ (q .marks) _ l (omega arith) (c .before .before .before .byte .ensures .0) h m
+          (q .inv .3 ids n l) (c .change-at .ensures ids)),
     )
 
 returns : tie.Need-returns Inv-loop μ-loop
 returns c =
     let p = c .before .before .before .before .before .before .before .before .args in
     let q = c .before .loop in
-    let cols : Columns = record { keys = p .keys .now; marks = p .marks .now; rows = p .rows .now } in
-    let is : Columns = record { keys = p .keys .now; marks = q .marks; rows = p .rows .now } in
     let e : q .j ≡ p .count = omega arith in
-    λ n l.
-    listed-end (isUnder (p .keys .now) (p .own)) n (p .count) (p .places .now) l
-    (λ i. Changed (p .paired) (p .clock) (p .by) (p .own) (p .ps) i cols is (p .statuses .now) (q .statuses))
-    (λ i e f. changed-same (p .paired) (p .clock) (p .by) (p .own) (p .ps) i (p .keys .now) (p .statuses .now) (q .statuses) (p .rows .now) (p .marks .now) (q .marks) f e)
-    (subst (λ j. Changed (p .paired) (p .clock) (p .by) (p .own) (p .ps) (reached (p .places .now) j) cols is (p .statuses .now) (q .statuses)) e (q .inv .3 n l))
+    λ ids n l.
+    let cols = columns (p .statuses .now) ids (p .keys .now) (p .marks .now) (p .rows .now) in
+    let so : ℕ → Type 0 = λ i. Changed (p .paired) (p .clock) (p .by) (p .own) (p .ps) i cols (q .statuses) (q .marks) in
+    listed-end (isUnder (p .keys .now) (p .own)) n (p .count) (p .places .now) l so
+    (λ i e f. changed-same (p .paired) (p .clock) (p .by) (p .own) (p .ps) cols i (q .statuses) (q .marks) f e)
+    (subst (λ j. so (reached (p .places .now) j)) e (q .inv .3 ids n l))
 
 pub change-all-spec : {M : Type 1} → statement M
 change-all-spec =
@@ -90,8 +92,8 @@ change-all-spec =
     (tie.spec
     Inv-loop
     μ-loop
-    statuses-long-requires
-    marks-long-requires
+    size-u8-requires
+    size-marks-requires
     loop-holds
     cast-byte
     element-copy-out-byte

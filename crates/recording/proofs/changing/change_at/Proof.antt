@@ -1,5 +1,6 @@
 -- `changing::change_at` meets its contract: a record of the filing's key is changed and stored, and any other is left.
 use borrow.Author.Needs.{needs}
+use Rattle.tables.specs.Tables.{columns}
 use Rattle.recording.proofs.Changes.{stored, left-alone}
 use Rattle.recording.proofs.changing.change_at.Statement.{statement}
 use Rattle.recording.proofs.changing.change_at.Tie as tie
@@ -43,15 +44,18 @@ element-set-from-next c = search needs
 returns : tie.Need-returns
 returns c =
     let p = c .before .before .before .before .before .before .before .args in
-    stored (p .paired) (p .clock) (p .by) (p .own) (p .ps) (p .i) (c .before .change-of .result .status)
-    (c .before .change-of .result .until) (p .keys .now) (p .statuses .now) (c .with-until .result) (p .marks .now) (p .rows .now)
-    (c .before .before .before .before .before .if1 .taken) (c .before .change-of .ensures) (c .with-until .ensures)
+    λ ids.
+    let cols = columns (p .statuses .now) ids (p .keys .now) (p .marks .now) (p .rows .now) in
+    stored (p .paired) (p .clock) (p .by) (p .own) (p .ps) cols (p .i) (c .before .change-of .result .status)
+    (c .before .change-of .result .until) (c .with-until .result) (c .before .before .before .before .before .if1 .taken)
+    (c .before .change-of .ensures _) (c .with-until .ensures)
 
 returns-2 : tie.Need-returns-2
 returns-2 c =
     let p = c .before .before .args in
-    left-alone (p .paired) (p .clock) (p .by) (p .own) (p .ps) (p .i)
-    (record { keys = p .keys .now; marks = p .marks .now; rows = p .rows .now }) (p .statuses .now) (c .if1 .left)
+    λ ids.
+    let cols = columns (p .statuses .now) ids (p .keys .now) (p .marks .now) (p .rows .now) in
+    left-alone (p .paired) (p .clock) (p .by) (p .own) (p .ps) cols (p .i) (c .if1 .left)
 
 pub change-at-spec : {M : Type 1} → statement M
 change-at-spec =

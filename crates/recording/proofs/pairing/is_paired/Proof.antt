@@ -2,14 +2,15 @@
 -- one of them is answered.
 use mathlib.Core.Path.{_≡_, refl, sym, subst}
 use mathlib.Core.Bool.{_||_}
+use mathlib.Core.List.{List}
 use Prim.Native.Nat.{ℕ, _≤_, _-_}
 use native.Mathlib.Omega.{arith}
 use lib.ListN.{getD}
 use Rattle.ledger.specs.Filing.{answers}
-use Rattle.tables.specs.Tables.{Columns, keyIn}
-use Rattle.tables.specs.Passing.{isUnder, reached, Listed}
+use Rattle.tables.specs.Tables.{columns, keyFrom, recordIn}
+use Rattle.tables.specs.Passing.{isUnder, reached, PlacesOf}
 use Rattle.tables.proofs.Listing.{listed-next, listed-end, reached-more}
-use Rattle.recording.specs.Recording.{recAt, pairsBelow}
+use Rattle.recording.specs.Recording.{pairsBelow}
 use Rattle.recording.proofs.Changes.{pairs-next, pairs-same}
 use borrow.Author.Needs.{needs}
 use Rattle.recording.proofs.pairing.is_paired.Statement.{statement}
@@ -18,15 +19,15 @@ use Rattle.recording.proofs.pairing.is_paired.Tie as tie
 abbrev Inv-loop : tie.InvT-loop
 Inv-loop statuses keys marks rows places count by own ps found₀ j₀ found j =
     (j ≤ count)
-    × ((n : ℕ) → Listed (isUnder keys own) n count places →
-    found ≡ pairsBelow (record { keys = keys; marks = marks; rows = rows }) statuses (reached places j) by own ps)
+    × ((ids : List ℕ) (n : ℕ) → PlacesOf (isUnder keys own) n count places →
+    found ≡ pairsBelow (columns statuses ids keys marks rows) (reached places j) by own ps)
 
 abbrev μ-loop : tie.MeasureT-loop
 μ-loop statuses keys marks rows places count by own ps found₀ j₀ found j = count - j
 
 loop-holds : tie.Need-loop-holds Inv-loop μ-loop
 unfolding pairsBelow
-loop-holds c = (omega arith, (λ n l. refl))
+loop-holds c = (omega arith, (λ ids n l. refl))
 
 cast-byte : tie.Need-cast-byte Inv-loop μ-loop
 cast-byte c = search needs
@@ -74,30 +75,30 @@ loop-again : tie.Need-loop-again Inv-loop μ-loop
 loop-again c =
     let p = c .before .before .before .before .before .before .before .before .before .args in
     let q = c .before .before .before .before .before .before .before .before .loop in
-    let cols : Columns = record { keys = p .keys .now; marks = p .marks .now; rows = p .rows .now } in
     let i = getD (p .places .now) (q .j) 0 in (
       omega arith,
-      (λ n l.
+      (λ ids n l.
+          let cols = columns (p .statuses .now) ids (p .keys .now) (p .marks .now) (p .rows .now) in
           let before = listed-next (isUnder (p .keys .now) (p .own)) n (p .count) (p .places .now) l
-          (λ i. q .found ≡ pairsBelow cols (p .statuses .now) i (p .by) (p .own) (p .ps))
-          (λ i e f. pairs-same cols (p .statuses .now) i (p .by) (p .own) (p .ps) (q .found) e f)
-          (q .j) (omega arith) (q .inv .1 n l) in
-          let here = subst (λ i. c .is-answered .result ≡ answers (p .by) (keyIn (p .own)) (p .ps) (recAt cols (p .statuses .now) 0 i)) (c .before .before .before .before .before .byte .ensures .0) (c .is-answered .ensures) in
-          subst (λ m. (c .is-answered .result || q .found) ≡ pairsBelow cols (p .statuses .now) m (p .by) (p .own) (p .ps)) (sym (reached-more (p .places .now) (q .j)))
-          (pairs-next cols (p .statuses .now) i (p .by) (p .own) (p .ps) _ (q .found) here before)),
+          (λ i. q .found ≡ pairsBelow cols i (p .by) (p .own) (p .ps))
+          (λ i e f. pairs-same cols i (p .by) (p .own) (p .ps) (q .found) e f)
+          (q .j) (omega arith) (q .inv .1 ids n l) in
+          let here = subst (λ i. c .is-answered .result ≡ answers (p .by) (keyFrom (p .own)) (p .ps) (recordIn cols i)) (c .before .before .before .before .before .byte .ensures .0) (c .is-answered .ensures) in
+          subst (λ m. (c .is-answered .result || q .found) ≡ pairsBelow cols m (p .by) (p .own) (p .ps)) (sym (reached-more (p .places .now) (q .j)))
+          (pairs-next cols i (p .by) (p .own) (p .ps) _ (q .found) here before)),
     )
 
 returns : tie.Need-returns Inv-loop μ-loop
 returns c =
     let p = c .before .before .args in
     let q = c .before .loop in
-    let cols : Columns = record { keys = p .keys .now; marks = p .marks .now; rows = p .rows .now } in
     let e : q .j ≡ p .count = omega arith in
-    λ n l.
+    λ ids n l.
+    let cols = columns (p .statuses .now) ids (p .keys .now) (p .marks .now) (p .rows .now) in
     listed-end (isUnder (p .keys .now) (p .own)) n (p .count) (p .places .now) l
-    (λ i. q .found ≡ pairsBelow cols (p .statuses .now) i (p .by) (p .own) (p .ps))
-    (λ i e f. pairs-same cols (p .statuses .now) i (p .by) (p .own) (p .ps) (q .found) e f)
-    (subst (λ j. q .found ≡ pairsBelow cols (p .statuses .now) (reached (p .places .now) j) (p .by) (p .own) (p .ps)) e (q .inv .1 n l))
+    (λ i. q .found ≡ pairsBelow cols i (p .by) (p .own) (p .ps))
+    (λ i e f. pairs-same cols i (p .by) (p .own) (p .ps) (q .found) e f)
+    (subst (λ j. q .found ≡ pairsBelow cols (reached (p .places .now) j) (p .by) (p .own) (p .ps)) e (q .inv .1 ids n l))
 
 pub is-paired-spec : {M : Type 1} → statement M
 is-paired-spec =

@@ -1,13 +1,13 @@
 -- `Head::advance` meets its contract: what the clock answers decides, and the head has the new clock.
-use mathlib.Core.Path.{refl, sym, ap, _∙_}
+use mathlib.Core.Path.{refl, sym, _∙_, ap}
 use Rattle.calendar.specs.declared.clock.Clock.{Clock}
 use Rattle.calendar.proofs.Clocks.{advanced-moved, advanced-refused}
 use Rattle.ledger.specs.Call.{advance}
-use Rattle.ledger.specs.Calls.{Outcome, verdictOf, effect, moment}
+use Rattle.ledger.specs.Calls.{verdictOf, effect, moment}
 use Rattle.ledger.specs.declared.Answer.the-variants.{Moved}
+use Rattle.register.specs.View.{lent, view}
+use Rattle.register.specs.Written.{withClock, writes, seen}
 use Rattle.register.specs.declared.Reply.{Reply}
-use Rattle.register.specs.View.{Register, view, held}
-use Rattle.register.specs.Written.{clockPut, writes, seen}
 use Rattle.register.proofs.Steps.{does-refused, does-passed}
 use borrow.Author.Needs.{needs}
 use Rattle.register.proofs.Head.advance.Statement.{statement}
@@ -31,9 +31,9 @@ returns c =
     let d = c .before .before .before .before in
     let a = d .before .before .args in
     let v = advanced-refused (a .self .clock) (moment (a .day) (a .minute)) _ (sym (c .before .before .moved .given .1) ∙ d .advanced .ensures) in
-    λ cols loads.
-    ap (λ (y : Reply). seen (record { head = y .head; columns = cols; loads = loads }) (y .answer)) (c .refused .ensures)
-    ∙ does-refused (record { head = a .self; columns = cols; loads = loads }) (advance (a .day) (a .minute)) _ _ (sym v) refl
+    λ columns loads.
+    ap (λ (y : Reply). seen (lent (y .head) columns loads) (y .answer)) (c .refused .ensures)
+    ∙ does-refused (lent (a .self) columns loads) (advance (a .day) (a .minute)) _ _ (sym v) refl
 
 returns-2 : tie.Need-returns-2
 unfolding verdictOf effect view writes
@@ -41,10 +41,9 @@ returns-2 c =
     let d = c .before .before .before in
     let a = d .before .before .args in
     let m = advanced-moved (a .self .clock) (moment (a .day) (a .minute)) _ (sym (c .before .moved2 .given .1) ∙ d .advanced .ensures) in
-    λ cols loads.
-    let r : Register = record { head = a .self; columns = cols; loads = loads } in
-    does-passed r _ (advance (a .day) (a .minute)) _ _ (sym (m .1)) refl (ap (clockPut r) (m .0))
-    (ap {B = Outcome} (λ (t : Clock). record { ledger = held (clockPut r t); answer = Moved }) (m .0))
+    λ columns loads.
+    ap (λ (t : Clock). seen (lent (withClock (a .self) t) columns loads) Moved) (m .0)
+    ∙ does-passed (lent (a .self) columns loads) _ (advance (a .day) (a .minute)) Moved _ (sym (m .1)) refl refl refl
 
 pub advance-spec : {M : Type 1} → statement M
 advance-spec =

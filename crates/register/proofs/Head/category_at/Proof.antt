@@ -20,13 +20,17 @@ six-of-requires c κs = search needs
 
 returns : tie.Need-returns
 returns c cols loads =
-    let a = c .before .before .before .before .before .before .before in
-    c .six-of .ensures ∙ category-here (a .args .self) cols loads (a .args .place) _ (c .before .before .before .before .before .least .ensures) (categories-length (a .args .self .categories) _ (a .good .0 .1 .1 .1 .1 .0)) _ (c .before .before .before .before .if1 .taken)
+    let t = c .before .before .before .before in
+    let a = t .before .before .before in
+    let h = a .args .self in
+    c .six-of .ensures
+    ∙ category-here h cols loads (a .args .place) _ (t .before .least .ensures) (categories-length (h .categories) _ (a .good .0 .1 .1 .1 .1 .0)) _ (t .if1 .taken)
 
 returns-2 : tie.Need-returns-2
 returns-2 c cols loads =
     let a = c .before .before .before in
-    category-past (a .args .self) cols loads (a .args .place) _ (c .before .least .ensures) (categories-length (a .args .self .categories) _ (a .good .0 .1 .1 .1 .1 .0)) (c .if1 .left)
+    let h = a .args .self in
+    category-past h cols loads (a .args .place) _ (c .before .least .ensures) (categories-length (h .categories) _ (a .good .0 .1 .1 .1 .1 .0)) (c .if1 .left)
 
 pub category-at-spec : {M : Type 1} → statement M
 category-at-spec = tie.close (tie.spec least-requires mul-e array-copy-out-e six-of-requires returns returns-2)

@@ -16,8 +16,9 @@ array-copy-out-e c = search needs
 
 returns : tie.Need-returns
 returns c cols loads =
-    let a = c .before .before .before .before .before .before in
-    code-here (a .args .self) cols loads (a .args .place) _ (c .before .before .before .before .least .ensures) (head-entries (a .args .self) _ (a .good .0)) (c .before .before .before .if1 .taken)
+    let t = c .before .before .before in
+    let a = t .before .before .before in
+    code-here (a .args .self) cols loads (a .args .place) _ (t .before .least .ensures) (head-entries (a .args .self) _ (a .good .0)) (t .if1 .taken)
 
 returns-2 : tie.Need-returns-2
 returns-2 c cols loads =

@@ -1,7 +1,13 @@
--- `Head::enrolled` meets its contract: each early return is the first test that is met.
-use mathlib.Core.Path.{refl, sym, _∙_}
-use borrow.Author.Tests.{eq-eqb, ne-eqb}
-use Rattle.register.proofs.Parties.{head-actors, head-categories, party-tests}
+-- `Head::enrolled` meets its contract: its tests are the ledger's, in their order.
+use mathlib.Core.Path.{sym, _∙_}
+use mathlib.Core.Bool.{not, _||_}
+use lib.Dec.{eqb, ltb}
+use Rattle.refusals.specs.Tests.{state}
+use Rattle.refusals.specs.declared.StateRefusal.the-variants.{AcquirerUnknown, ActorUnknown, CategoryUnknown, NotParty, OneActor}
+use Rattle.refusals.proofs.Tests.{then-tried}
+use Rattle.register.proofs.Parties.{head-actors, head-categories}
+use Rattle.register.proofs.CallTests.{party-is}
+use Rattle.register.specs.Judging.{keyAt}
 use borrow.Author.Needs.{needs}
 use Rattle.register.proofs.Head.enrolled.Statement.{statement}
 use Rattle.register.proofs.Head.enrolled.Tie as tie
@@ -9,85 +15,54 @@ use Rattle.register.proofs.Head.enrolled.Tie as tie
 least-requires : tie.Need-least-requires
 least-requires c κs = search needs
 
-no-requires : tie.Need-no-requires
-no-requires c κs = search needs
-
-returns : tie.Need-returns
-returns c cols loads =
-    let a = c .before .before .before .before in
-    c .no .ensures ∙ sym (party-tests (a .args .self) cols loads _ _ _ _ (head-actors (a .args .self) _ (a .good .0) ∙ sym (c .before .before .before .least .ensures)) (refl)
-    ∙ rw (c .before .if1 .taken))
-
-no-requires-2 : tie.Need-no-requires-2
-no-requires-2 c κs = search needs
-
-returns-2 : tie.Need-returns-2
-returns-2 c cols loads =
-    let a = c .before .before .before .before .before .before in
-    c .no2 .ensures ∙ sym (party-tests (a .args .self) cols loads _ _ _ _ (head-actors (a .args .self) _ (a .good .0) ∙ sym (c .before .before .before .before .before .least .ensures)) (refl)
-    ∙ rw (c .before .before .before .if1 .left, c .before .if2 .taken))
-
-no-requires-3 : tie.Need-no-requires-3
-no-requires-3 c κs = search needs
-
-returns-3 : tie.Need-returns-3
-returns-3 c cols loads =
-    let a = c .before .before .before .before .before .before .before .before in
-    c .no3 .ensures ∙ sym (party-tests (a .args .self) cols loads _ _ _ _ (head-actors (a .args .self) _ (a .good .0) ∙ sym (c .before .before .before .before .before .before .before .least .ensures)) (refl)
-    ∙ rw (c .before .before .before .before .before .if1 .left, c .before .before .before .if2 .left, c .before .if3 .taken))
-
 least-requires-2 : tie.Need-least-requires-2
 least-requires-2 c κs = search needs
 
-no-requires-4 : tie.Need-no-requires-4
-no-requires-4 c κs = search needs
+try-state-requires : tie.Need-try-state-requires
+try-state-requires c κs = search needs
 
-returns-4 : tie.Need-returns-4
-returns-4 c cols loads =
-    let a = c .before .before .before .before .before .before .before .before .before .before .before in
-    c .no4 .ensures ∙ sym (party-tests (a .args .self) cols loads _ _ _ _ (head-actors (a .args .self) _ (a .good .0) ∙ sym (c .before .before .before .before .before .before .before .before .before .before .least .ensures)) (head-categories (a .args .self) _ (a .good .0) ∙ sym (c .before .before .before .least2 .ensures))
-    ∙ rw (c .before .before .before .before .before .before .before .before .if1 .left, c .before .before .before .before .before .before .if2 .left, c .before .before .before .before .if3 .left, c .before .if4 .taken))
+try-state-requires-2 : tie.Need-try-state-requires-2
+try-state-requires-2 c κs = search needs
 
-no-requires-5 : tie.Need-no-requires-5
-no-requires-5 c κs = search needs
+try-state-requires-3 : tie.Need-try-state-requires-3
+try-state-requires-3 c κs = search needs
 
-returns-5 : tie.Need-returns-5
-returns-5 c cols loads =
-    let a = c .before .before .before .before .before .before .before .before .before .before .before .before .before .before in
-    c .no5 .ensures ∙ sym (party-tests (a .args .self) cols loads _ _ _ _ (head-actors (a .args .self) _ (a .good .0) ∙ sym (c .before .before .before .before .before .before .before .before .before .before .before .before .before .least .ensures)) (head-categories (a .args .self) _ (a .good .0) ∙ sym (c .before .before .before .before .before .before .least2 .ensures))
-    ∙ rw (c .before .before .before .before .before .before .before .before .before .before .before .if1 .left, c .before .before .before .before .before .before .before .before .before .if2 .left, c .before .before .before .before .before .before .before .if3 .left, c .before .before .before .before .if4 .left, c .before .if5 .taken))
+try-state-requires-4 : tie.Need-try-state-requires-4
+try-state-requires-4 c κs = search needs
 
-no-requires-6 : tie.Need-no-requires-6
-no-requires-6 c κs = search needs
+try-state-requires-5 : tie.Need-try-state-requires-5
+try-state-requires-5 c κs = search needs
 
-returns-6 : tie.Need-returns-6
-returns-6 c cols loads =
-    let a = c .before .before .before .before .before .before .before .before .before .before .before .before .before .before .before .before in
-    c .no6 .ensures ∙ sym (party-tests (a .args .self) cols loads _ _ _ _ (head-actors (a .args .self) _ (a .good .0) ∙ sym (c .before .before .before .before .before .before .before .before .before .before .before .before .before .before .before .least .ensures)) (head-categories (a .args .self) _ (a .good .0) ∙ sym (c .before .before .before .before .before .before .before .before .least2 .ensures))
-    ∙ rw (c .before .before .before .before .before .before .before .before .before .before .before .before .before .if1 .left, c .before .before .before .before .before .before .before .before .before .before .before .if2 .left, c .before .before .before .before .before .before .before .before .before .if3 .left, c .before .before .before .before .before .before .if4 .left, c .before .before .before .if5 .left, eq-eqb _ _ (c .before .if6 .taken)))
+try-state-requires-6 : tie.Need-try-state-requires-6
+try-state-requires-6 c κs = search needs
 
-returns-7 : tie.Need-returns-7
-returns-7 c cols loads =
-    let a = c .before .before .before .before .before .before .before .before .before .before .before .before .before .before .before in
-    sym (party-tests (a .args .self) cols loads _ _ _ _ (head-actors (a .args .self) _ (a .good .0) ∙ sym (c .before .before .before .before .before .before .before .before .before .before .before .before .before .before .least .ensures)) (head-categories (a .args .self) _ (a .good .0) ∙ sym (c .before .before .before .before .before .before .before .least2 .ensures))
-    ∙ rw (c .before .before .before .before .before .before .before .before .before .before .before .before .if1 .left, c .before .before .before .before .before .before .before .before .before .before .if2 .left, c .before .before .before .before .before .before .before .before .if3 .left, c .before .before .before .before .before .if4 .left, c .before .before .if5 .left, ne-eqb _ _ (c .if6 .left)))
+returns : tie.Need-returns
+returns c =
+    let b = c .before .before .before .before .before .before .before .before .before .before .before .before .before .before in
+    let a = b .args in
+    λ cols loads.
+    let k = a .at in
+    let n = c .before .before .before .before .before .before .before .before .before .before .before .before .before .least .result in
+    let by = k .submitter in
+    then-tried _ _ _ (eqb (k .ceder) (k .acquirer)) (state OneActor) (c .try-state6 .ensures)
+    (then-tried _ _ _ (not (eqb by (k .ceder) || eqb by (k .acquirer))) (state NotParty) (c .before .before .try-state5 .ensures)
+    (then-tried _ _ _ (not (ltb (k .category) (c .before .before .before .before .before .before .before .before .before .before .before .before .least2 .result))) (state CategoryUnknown) (c .before .before .before .before .before .try-state4 .ensures)
+    (then-tried _ _ _ (not (ltb by n)) (state ActorUnknown) (c .before .before .before .before .before .before .before .try-state3 .ensures)
+    (then-tried _ _ _ (not (ltb (k .acquirer) n)) (state AcquirerUnknown) (c .before .before .before .before .before .before .before .before .try-state2 .ensures) (c .before .before .before .before .before .before .before .before .before .before .try-state .ensures)))))
+    ∙ party-is (a .self) cols loads _ _
+    (head-actors (a .self) _ (b .good .0) ∙ sym (c .before .before .before .before .before .before .before .before .before .before .before .before .before .least .ensures)) (head-categories (a .self) _ (b .good .0) ∙ sym (c .before .before .before .before .before .before .before .before .before .before .before .before .least2 .ensures))
+    (keyAt (a .at)) (a .at .submitter)
 
 pub enrolled-spec : {M : Type 1} → statement M
 enrolled-spec =
     tie.close
     (tie.spec
     least-requires
-    no-requires
-    returns
-    no-requires-2
-    returns-2
-    no-requires-3
-    returns-3
     least-requires-2
-    no-requires-4
-    returns-4
-    no-requires-5
-    returns-5
-    no-requires-6
-    returns-6
-    returns-7)
+    try-state-requires
+    try-state-requires-2
+    try-state-requires-3
+    try-state-requires-4
+    try-state-requires-5
+    try-state-requires-6
+    returns)

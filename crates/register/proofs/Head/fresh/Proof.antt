@@ -5,8 +5,8 @@ use Rattle.calendar.specs.declared.clock.Clock.{Clock}
 use Rattle.tables.specs.Tables.{actorsIn, categoriesIn, loadsIn, recordsIn}
 use Rattle.ledger.specs.Ledger.{Ledger}
 use Rattle.register.specs.View.{view}
-use Rattle.register.specs.Written.{freshHead}
-use Rattle.register.specs.declared.Head.{Head}
+use Rattle.register.specs.Written.{freshHead, freshRegister, withClock}
+use Rattle.register.specs.declared.Fresh.{Fresh}
 use borrow.Author.Needs.{needs}
 use Rattle.register.proofs.Head.fresh.Statement.{statement}
 use Rattle.register.proofs.Head.fresh.Tie as tie
@@ -17,16 +17,10 @@ fresh-requires c κs = search needs
 returns : tie.Need-returns
 unfolding view actorsIn categoriesIn loadsIn recordsIn
 returns c =
-    let at : Clock → Head = λ t.
-    record {
-      clock = t;
-      actors = freshHead .actors;
-      categories = freshHead .categories;
-      loads = freshHead .loads;
-      records = freshHead .records;
-    } in
+    let at : Clock → Fresh = λ t.
+    record { head = withClock freshHead t; statuses = freshRegister .statuses; ids = freshRegister .ids } in
     let held : Clock → Ledger = λ t. record { clock = t; actors = []; categories = []; loads = []; records = [] } in
-    (ap at (c .fresh .ensures), (λ cols loads. ap held (c .fresh .ensures)))
+    (ap at (c .fresh .ensures), (λ columns loads. ap held (c .fresh .ensures)))
 
 pub fresh-spec : {M : Type 1} → statement M
 fresh-spec = tie.close (tie.spec fresh-requires returns)

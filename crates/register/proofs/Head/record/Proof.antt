@@ -1,6 +1,7 @@
 -- `Head::record` meets its contract: who asks, the record of the id, and whether the asker is a party to it.
-use mathlib.Core.Path.{refl, sym, _∙_}
+use mathlib.Core.Path.{sym, _∙_}
 use borrow.Author.Tests.{not-true, not-false}
+use Rattle.tables.specs.Tables.{columns}
 use Rattle.register.proofs.Parties.{head-actors}
 use Rattle.register.proofs.Answers.{found-below, shown-nobody, shown-none, shown-other, shown-own}
 use borrow.Author.Needs.{needs}
@@ -18,9 +19,12 @@ not-shown-requires c κs = search needs
 
 returns : tie.Need-returns
 returns c loads =
-    let a = c .before .before .before .before .before .before in
-    let hn = head-actors (a .args .self) _ (a .good .0) in
-    c .not-shown .ensures ∙ shown-nobody (a .args .self) (record { keys = a .args .keys .now; marks = a .args .marks .now; rows = a .args .rows .now }) loads (a .args .asker .now) (a .args .id) _ _ (hn ∙ sym (c .before .before .least .ensures)) (c .before .before .before .place .ensures) (c .before .if1 .taken)
+    let p = c .before .before .before in
+    let b = p .before .before .before in
+    let a = b .args in
+    c .not-shown .ensures
+    ∙ shown-nobody (a .self) (columns (a .statuses .now) (a .ids .now) (a .keys .now) (a .marks .now) (a .rows .now)) loads (a .asker .now) (a .id) _ _
+    (head-actors (a .self) _ (b .good .0) ∙ sym (c .before .before .least .ensures)) (p .place .ensures) (c .before .if1 .taken)
 
 find-id-requires : tie.Need-find-id-requires
 find-id-requires c κs = search needs
@@ -36,8 +40,9 @@ mul-is-party c = search needs
 
 element-copy-out-is-party : tie.Need-element-copy-out-is-party
 element-copy-out-is-party c =
-    let a = c .before .before .before .before .before .before .before .before .before .before .before in
-    found-below (a .args .self .records .ids) (a .args .id) _ _ _ _ refl (c .before .before .before .find-id .ensures) (c .before .found .given .1)
+    let f = c .before .before .before in
+    let a = f .before .before .before .before .before .before .args in
+    found-below (a .ids .now) (a .id) (a .self .records) _ _ (f .find-id .ensures) (c .before .found .given .1)
 
 is-party-requires : tie.Need-is-party-requires
 is-party-requires c κs = search needs
@@ -47,14 +52,19 @@ not-shown-requires-2 c κs = search needs
 
 returns-2 : tie.Need-returns-2
 returns-2 c loads =
-    let a = c .before .before .before .before .before .before .before .before .before .before .before .before .before .before .before in
-    let hn = head-actors (a .args .self) _ (a .good .0) in
-    c .not-shown2 .ensures ∙ shown-other (a .args .self) (record { keys = a .args .keys .now; marks = a .args .marks .now; rows = a .args .rows .now }) loads (a .args .asker .now) (a .args .id) _ _ (hn ∙ sym (c .before .before .before .before .before .before .before .before .before .before .before .least .ensures)) (c .before .before .before .before .before .before .before .before .before .before .before .before .place .ensures) _ _ (c .before .before .before .before .before .before .before .before .before .before .if1 .left) refl (c .before .before .before .before .before .before .before .find-id .ensures) _ (c .before .before .before .before .before .found .given .1) (sym (c .before .before .is-party .ensures) ∙ not-true _ (c .before .if2 .taken))
+    let g = c .before .before .before .before .before in
+    let f = g .before .before in
+    let t = f .before in
+    let p = t .before .before in
+    let b = p .before .before .before in
+    let a = b .args in
+    c .not-shown2 .ensures
+    ∙ shown-other (a .self) (columns (a .statuses .now) (a .ids .now) (a .keys .now) (a .marks .now) (a .rows .now)) loads (a .asker .now) (a .id) _ _
+    (head-actors (a .self) _ (b .good .0) ∙ sym (t .before .least .ensures)) (p .place .ensures) _ (t .if1 .left) (f .find-id .ensures)
+    _ (g .found .given .1) (sym (c .before .before .is-party .ensures) ∙ not-true _ (c .before .if2 .taken))
 
 shown-at-requires : tie.Need-shown-at-requires
-shown-at-requires c κs =
-    let a = c .before .before .before .before .before .before .before .before .before .before .before .before .before .before in
-    found-below (a .args .self .records .ids) (a .args .id) _ _ _ _ refl (c .before .before .before .before .before .before .find-id .ensures) (c .before .before .before .before .found .given .1)
+shown-at-requires c κs = element-copy-out-is-party (c .before .before .before)
 
 enum-told : tie.Need-enum-told
 enum-told c = search needs
@@ -64,15 +74,27 @@ not-shown-requires-3 c κs = search needs
 
 returns-3 : tie.Need-returns-3
 returns-3 c loads =
-    let a = c .before .before .before .before .before .before .before .before .before .before .before .before .before .before .before in
-    let hn = head-actors (a .args .self) _ (a .good .0) in
-    shown-own (a .args .self) (record { keys = a .args .keys .now; marks = a .args .marks .now; rows = a .args .rows .now }) loads (a .args .asker .now) (a .args .id) _ _ (hn ∙ sym (c .before .before .before .before .before .before .before .before .before .before .before .least .ensures)) (c .before .before .before .before .before .before .before .before .before .before .before .before .place .ensures) _ _ (c .before .before .before .before .before .before .before .before .before .before .if1 .left) refl (c .before .before .before .before .before .before .before .find-id .ensures) _ (c .before .before .before .before .before .found .given .1) _ (sym (c .before .before .is-party .ensures) ∙ not-false _ (c .before .if2 .left)) (c .shown-at .ensures loads)
+    let g = c .before .before .before .before .before in
+    let f = g .before .before in
+    let t = f .before in
+    let p = t .before .before in
+    let b = p .before .before .before in
+    let a = b .args in
+    shown-own (a .self) (columns (a .statuses .now) (a .ids .now) (a .keys .now) (a .marks .now) (a .rows .now)) loads (a .asker .now) (a .id) _ _
+    (head-actors (a .self) _ (b .good .0) ∙ sym (t .before .least .ensures)) (p .place .ensures) _ (t .if1 .left) (f .find-id .ensures)
+    _ (g .found .given .1) _ (sym (c .before .before .is-party .ensures) ∙ not-false _ (c .before .if2 .left)) (c .shown-at .ensures (a .ids .now) loads)
 
 returns-4 : tie.Need-returns-4
 returns-4 c loads =
-    let a = c .before .before .before .before .before .before .before .before .before .before .before in
-    let hn = head-actors (a .args .self) _ (a .good .0) in
-    c .not-shown3 .ensures ∙ shown-none (a .args .self) (record { keys = a .args .keys .now; marks = a .args .marks .now; rows = a .args .rows .now }) loads (a .args .asker .now) (a .args .id) _ _ (hn ∙ sym (c .before .before .before .before .before .before .before .least .ensures)) (c .before .before .before .before .before .before .before .before .place .ensures) _ _ (c .before .before .before .before .before .before .if1 .left) refl (c .before .before .before .find-id .ensures) (c .before .enum-told .given .1)
+    let f = c .before .before .before in
+    let t = f .before in
+    let p = t .before .before in
+    let b = p .before .before .before in
+    let a = b .args in
+    c .not-shown3 .ensures
+    ∙ shown-none (a .self) (columns (a .statuses .now) (a .ids .now) (a .keys .now) (a .marks .now) (a .rows .now)) loads (a .asker .now) (a .id) _ _
+    (head-actors (a .self) _ (b .good .0) ∙ sym (t .before .least .ensures)) (p .place .ensures) _ (t .if1 .left) (f .find-id .ensures)
+    (c .before .enum-told .given .1)
 
 pub record-spec : {M : Type 1} → statement M
 record-spec =

@@ -1,14 +1,16 @@
 -- `Head::record_note` meets its contract: the records before are changed, and the new one stands first.
-use mathlib.Core.List.{[]}
 use native.Mathlib.Omega.{arith}
-use Rattle.register.proofs.CallTests.{noColumns}
-use Rattle.register.proofs.Records.{record-room, first-small, head-statuses, head-ids, record-done, listed-under}
+use Prim.Native.Nat.{_≤_, _<_}
+use Rattle.calendar.specs.Steps.{stepsOf}
+use Rattle.calendar.proofs.StepCounts.{steps-small}
+use Rattle.tables.specs.Tables.{columns}
+use Rattle.register.proofs.Records.{first-small, record-done, listed-under}
 use borrow.Author.Needs.{needs}
 use Rattle.register.proofs.Head.record_note.Statement.{statement}
 use Rattle.register.proofs.Head.record_note.Tie as tie
 
 key-number-requires : tie.Need-key-number-requires
-key-number-requires c κs = let j = c .pre .0 noColumns [] .judgeable in (j .ceder, j .acquirer, j .category, j .day)
+key-number-requires c κs = let j = c .pre .0 .judgeable in (j .ceder, j .acquirer, j .category, j .day)
 
 first-counted-requires : tie.Need-first-counted-requires
 first-counted-requires c κs = search needs
@@ -16,152 +18,105 @@ first-counted-requires c κs = search needs
 steps-of-requires : tie.Need-steps-of-requires
 steps-of-requires c κs = search needs
 
-keys-of-requires : tie.Need-keys-of-requires
-keys-of-requires c κs = search needs
+size-u8-requires : tie.Need-size-u8-requires
+size-u8-requires c κs = search needs
 
-marks-of-requires : tie.Need-marks-of-requires
-marks-of-requires c κs = search needs
+size-u32-requires : tie.Need-size-u32-requires
+size-u32-requires c κs = search needs
 
-rows-of-requires : tie.Need-rows-of-requires
-rows-of-requires c κs = search needs
+size-u32-requires-2 : tie.Need-size-u32-requires-2
+size-u32-requires-2 c κs = search needs
+
+size-marks-requires : tie.Need-size-marks-requires
+size-marks-requires c κs = search needs
+
+size-rows-requires : tie.Need-size-rows-requires
+size-rows-requires c κs = search needs
+
+-- there are no more places than records
+few : (b : tie.Start) → b .args .count ≤ 256
+few b = omega (arith, b .pre .1 .few)
 
 is-paired-requires : tie.Need-is-paired-requires
-is-paired-requires c κs = omega (arith, c .before .before .before .before .before .before .before .before .before .before .before .before .before .before .before .before .before .before .before .before .pre .1 .few)
+is-paired-requires c κs = few (c .before .before .before .before .before .before .before .before .before .before .before .before .before .before .before .before .before .before .before .before .before .before .before)
 
 change-all-requires : tie.Need-change-all-requires
 change-all-requires c κs =
-    let b = c .before .before .before .before .before .before .before .before .before .before .before .before .before .before .before .before .before .before .before .before .before .before .before .before .before in
-    let a = b .args in
-    let room = record-room (a .self) noColumns [] (a .at) (b .pre .0 noColumns []) in
-    (omega (arith, b .pre .1 .few), first-small (a .self) (a .at) _ room (c .before .before .before .before .before .before .before .before .before .before .before .before .before .before .before .before .before .before .before .before .before .before .before .before .key-number .ensures .0))
+    let b = c .before .before .before .before .before .before .before .before .before .before .before .before .before .before .before .before .before .before .before .before .before .before .before .before .before .before .before .before in
+    (few b, first-small (b .args .self) (b .args .at) _ (b .pre .0 .judgeable) (c .before .before .before .before .before .before .before .before .before .before .before .before .before .before .before .before .before .before .before .before .before .before .before .before .before .before .before .key-number .ensures .0))
 
 status-of-requires : tie.Need-status-of-requires
 status-of-requires c κs = search needs
 
+-- what is known of the filing once its status is
+module _ (c : tie.After-status-of) where
+  abbrev b : tie.Start
+  b = c .before .before .before .before .before .before .before .before .before .before .before .before .before .before .before .before .before .before .before .before .before .before .before .before .before .before .before .before .before .before
+
+  room : b .args .self .records < 256
+  room = b .pre .0 .room
+
+  steps : stepsOf (b .args .at .day) ≤ 50
+  steps = steps-small (b .args .at .day)
+
+add-id : tie.Need-add-id
+add-id c = omega (arith, room c)
+
 cast-place : tie.Need-cast-place
-cast-place c =
-    let b = c .before .before .before .before .before .before .before .before .before .before .before .before .before .before .before .before .before .before .before .before .before .before .before .before .before .before .before in
-    let a = b .args in
-    let room = record-room (a .self) noColumns [] (a .at) (b .pre .0 noColumns []) in
-    omega (arith, room .room)
+cast-place c = omega (arith, room c)
 
-array-write-statuses : tie.Need-array-write-statuses
-array-write-statuses c =
-    let b = c .before .before .before .before .before .before .before .before .before .before .before .before .before .before .before .before .before .before .before .before .before .before .before .before .before .before .before in
-    let a = b .args in
-    let room = record-room (a .self) noColumns [] (a .at) (b .pre .0 noColumns []) in
-    room .room
-
-add-ids : tie.Need-add-ids
-add-ids c =
-    let b = c .before .before .before .before .before .before .before .before .before .before .before .before .before .before .before .before .before .before .before .before .before .before .before .before .before .before .before in
-    let a = b .args in
-    let room = record-room (a .self) noColumns [] (a .at) (b .pre .0 noColumns []) in
-    omega (arith, room .room)
+element-write-statuses : tie.Need-element-write-statuses
+element-write-statuses c = room c
 
 mul-ids : tie.Need-mul-ids
-mul-ids c =
-    let b = c .before .before .before .before .before .before .before .before .before .before .before .before .before .before .before .before .before .before .before .before .before .before .before .before .before .before .before in
-    let a = b .args in
-    let room = record-room (a .self) noColumns [] (a .at) (b .pre .0 noColumns []) in
-    omega (arith, room .room)
+mul-ids c = omega (arith, room c)
 
-array-write-ids : tie.Need-array-write-ids
-array-write-ids c =
-    let b = c .before .before .before .before .before .before .before .before .before .before .before .before .before .before .before .before .before .before .before .before .before .before .before .before .before .before .before in
-    let a = b .args in
-    let room = record-room (a .self) noColumns [] (a .at) (b .pre .0 noColumns []) in
-    room .room
+element-write-ids : tie.Need-element-write-ids
+element-write-ids c = room c
 
 mul-keys : tie.Need-mul-keys
-mul-keys c =
-    let b = c .before .before .before .before .before .before .before .before .before .before .before .before .before .before .before .before .before .before .before .before .before .before .before .before .before .before .before in
-    let a = b .args in
-    let room = record-room (a .self) noColumns [] (a .at) (b .pre .0 noColumns []) in
-    omega (arith, room .room)
+mul-keys c = omega (arith, room c)
 
 element-write-keys : tie.Need-element-write-keys
-element-write-keys c =
-    let b = c .before .before .before .before .before .before .before .before .before .before .before .before .before .before .before .before .before .before .before .before .before .before .before .before .before .before .before in
-    let a = b .args in
-    let room = record-room (a .self) noColumns [] (a .at) (b .pre .0 noColumns []) in
-    room .room
+element-write-keys c = room c
 
-cast-t50 : tie.Need-cast-t50
-cast-t50 c =
-    let b = c .before .before .before .before .before .before .before .before .before .before .before .before .before .before .before .before .before .before .before .before .before .before .before .before .before .before .before in
-    let a = b .args in
-    let room = record-room (a .self) noColumns [] (a .at) (b .pre .0 noColumns []) in
-    omega (arith, room .submitter)
+cast-t54 : tie.Need-cast-t54
+cast-t54 c = omega (arith, c .before .before .before .before .before .before .before .before .before .before .before .before .before .before .before .before .before .before .before .before .before .before .before .before .before .before .before .before .before .before .pre .0 .judgeable .submitter)
 
-cast-t51 : tie.Need-cast-t51
-cast-t51 c =
-    let b = c .before .before .before .before .before .before .before .before .before .before .before .before .before .before .before .before .before .before .before .before .before .before .before .before .before .before .before in
-    let a = b .args in
-    let room = record-room (a .self) noColumns [] (a .at) (b .pre .0 noColumns []) in
-    omega (arith, c .before .before .before .before .before .before .before .before .before .before .before .before .before .before .before .before .before .before .before .before .before .before .before .before .first-counted .ensures, room .counted, room .few)
+cast-t55 : tie.Need-cast-t55
+cast-t55 c = omega (arith, c .before .before .before .before .before .before .before .before .before .before .before .before .before .before .before .before .before .before .before .before .before .before .before .before .before .before .before .first-counted .ensures, c .before .before .before .before .before .before .before .before .before .before .before .before .before .before .before .before .before .before .before .before .before .before .before .before .before .before .before .before .before .before .pre .0 .judgeable .counted, steps c)
 
-cast-t52 : tie.Need-cast-t52
-cast-t52 c =
-    let b = c .before .before .before .before .before .before .before .before .before .before .before .before .before .before .before .before .before .before .before .before .before .before .before .before .before .before .before in
-    let a = b .args in
-    let room = record-room (a .self) noColumns [] (a .at) (b .pre .0 noColumns []) in
-    omega (arith, c .before .before .before .before .before .before .before .before .before .before .before .before .before .before .before .before .before .before .before .before .before .before .before .steps-of .ensures, room .few)
+cast-t56 : tie.Need-cast-t56
+cast-t56 c = omega (arith, c .before .before .before .before .before .before .before .before .before .before .before .before .before .before .before .before .before .before .before .before .before .before .before .before .before .before .steps-of .ensures, steps c)
 
-mul-t45 : tie.Need-mul-t45
-mul-t45 c =
-    let b = c .before .before .before .before .before .before .before .before .before .before .before .before .before .before .before .before .before .before .before .before .before .before .before .before .before .before .before in
-    let a = b .args in
-    let room = record-room (a .self) noColumns [] (a .at) (b .pre .0 noColumns []) in
-    omega (arith, room .room)
+mul-t49 : tie.Need-mul-t49
+mul-t49 c = omega (arith, room c)
 
 element-set-from-marks : tie.Need-element-set-from-marks
-element-set-from-marks c =
-    let b = c .before .before .before .before .before .before .before .before .before .before .before .before .before .before .before .before .before .before .before .before .before .before .before .before .before .before .before in
-    let a = b .args in
-    let room = record-room (a .self) noColumns [] (a .at) (b .pre .0 noColumns []) in
-    room .room
+element-set-from-marks c = room c
 
 mul-ps : tie.Need-mul-ps
-mul-ps c =
-    let b = c .before .before .before .before .before .before .before .before .before .before .before .before .before .before .before .before .before .before .before .before .before .before .before .before .before .before .before in
-    let a = b .args in
-    let room = record-room (a .self) noColumns [] (a .at) (b .pre .0 noColumns []) in
-    omega (arith, room .room)
+mul-ps c = omega (arith, room c)
 
 element-set-from-ps : tie.Need-element-set-from-ps
-element-set-from-ps c =
-    let b = c .before .before .before .before .before .before .before .before .before .before .before .before .before .before .before .before .before .before .before .before .before .before .before .before .before .before .before in
-    let a = b .args in
-    let room = record-room (a .self) noColumns [] (a .at) (b .pre .0 noColumns []) in
-    room .room
+element-set-from-ps c = room c
 
-add-t44 : tie.Need-add-t44
-add-t44 c =
-    let b = c .before .before .before .before .before .before .before .before .before .before .before .before .before .before .before .before .before .before .before .before .before .before .before .before .before .before .before in
-    let a = b .args in
-    let room = record-room (a .self) noColumns [] (a .at) (b .pre .0 noColumns []) in
-    omega (arith, room .room)
-
-add-t44-2 : tie.Need-add-t44-2
-add-t44-2 c =
-    let b = c .before .before .before .before .before .before .before .before .before .before .before .before .before .before .before .before .before .before .before .before .before .before .before .before .before .before .before in
-    let a = b .args in
-    let room = record-room (a .self) noColumns [] (a .at) (b .pre .0 noColumns []) in
-    omega (arith, room .room)
+add-head : tie.Need-add-head
+add-head c = omega (arith, room c)
 
 returns : tie.Need-returns
 returns c =
-    let b = c .before .before .before .before .before .before .before .before .before .before .before .before .before .before .before .before .before .before .before .before .before .before .before .before .before .before .before in
+    let b = c .before .before .before .before .before .before .before .before .before .before .before .before .before .before .before .before .before .before .before .before .before .before .before .before .before .before .before .before .before .before in
     let a = b .args in
-    let room = record-room (a .self) noColumns [] (a .at) (b .pre .0 noColumns []) in
-    let list = listed-under (a .self) (a .at) _ (c .before .before .before .before .before .before .before .before .before .before .before .before .before .before .before .before .before .before .before .before .before .before .before .before .before .before .key-number .ensures .0) (a .keys .now) (a .under .now) (a .count) room (b .pre .1) in
+    let own = c .before .before .before .before .before .before .before .before .before .before .before .before .before .before .before .before .before .before .before .before .before .before .before .before .before .before .before .before .before .key-number .ensures .0 in
+    let list = listed-under (a .self) (a .at) _ own (a .keys .now) (a .under .now) (a .count) (room c) (b .pre .1) in
     λ loads.
-    record-done (a .self) loads (a .keys .now) (a .marks .now) (a .rows .now) (a .at) (a .ps) _ _ _ _ _ _ _ room
-    (c .before .before .before .before .before .before .before .before .before .before .before .before .before .before .before .before .before .before .keys-of-arg2 .given .0) (c .before .before .before .before .before .before .before .before .before .before .before .before .before .before .before .marks-of-arg2 .given .0) (c .before .before .before .before .before .before .before .before .before .before .before .before .rows-of-arg2 .given .0)
-    (head-statuses (a .self) _ (b .good .0)) (head-ids (a .self) _ (b .good .0))
-    (c .before .before .before .before .before .before .before .before .before .before .before .before .before .before .before .before .before .before .before .before .before .before .before .before .before .before .key-number .ensures .0) (c .before .before .before .before .before .before .before .before .before .before .before .before .before .before .before .before .before .before .before .before .before .before .before .before .first-counted .ensures) (c .before .before .before .before .before .before .before .before .before .before .before .before .before .before .before .before .before .before .before .before .before .before .before .steps-of .ensures)
-    (c .status-of .ensures) (c .before .before .before .before .before .before .is-paired .ensures _ list) (c .before .change-all .ensures _ list)
+    record-done (a .self) loads (columns (a .statuses .now) (a .ids .now) (a .keys .now) (a .marks .now) (a .rows .now)) (a .at) (a .ps)
+    _ _ _ _ _ _ _ (b .pre .0)
+    (c .before .before .before .before .before .before .before .before .before .before .before .before .before .before .before .before .before .before .before .before .before .before .before .before .size-u8-arg2 .given .0) (c .before .before .before .before .before .before .before .before .before .before .before .before .before .before .before .before .before .before .before .before .before .size-u32-arg2 .given .0) (c .before .before .before .before .before .before .before .before .before .before .before .before .before .before .before .before .before .before .size-u32-arg4 .given .0)
+    (c .before .before .before .before .before .before .before .before .before .before .before .before .before .before .before .size-marks-arg2 .given .0) (c .before .before .before .before .before .before .before .before .before .before .before .before .size-rows-arg2 .given .0)
+    own (c .before .before .before .before .before .before .before .before .before .before .before .before .before .before .before .before .before .before .before .before .before .before .before .before .before .before .before .first-counted .ensures) (c .before .before .before .before .before .before .before .before .before .before .before .before .before .before .before .before .before .before .before .before .before .before .before .before .before .before .steps-of .ensures) (c .status-of .ensures)
+    (c .before .before .before .before .before .before .is-paired .ensures _ _ list) (c .before .change-all .ensures _ _ list)
 
 pub record-note-spec : {M : Type 1} → statement M
 record-note-spec =
@@ -170,26 +125,27 @@ record-note-spec =
     key-number-requires
     first-counted-requires
     steps-of-requires
-    keys-of-requires
-    marks-of-requires
-    rows-of-requires
+    size-u8-requires
+    size-u32-requires
+    size-u32-requires-2
+    size-marks-requires
+    size-rows-requires
     is-paired-requires
     change-all-requires
     status-of-requires
+    add-id
     cast-place
-    array-write-statuses
-    add-ids
+    element-write-statuses
     mul-ids
-    array-write-ids
+    element-write-ids
     mul-keys
     element-write-keys
-    cast-t50
-    cast-t51
-    cast-t52
-    mul-t45
+    cast-t54
+    cast-t55
+    cast-t56
+    mul-t49
     element-set-from-marks
     mul-ps
     element-set-from-ps
-    add-t44
-    add-t44-2
+    add-head
     returns)

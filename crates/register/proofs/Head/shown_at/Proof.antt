@@ -1,4 +1,5 @@
 -- `Head::shown_at` meets its contract: each part of what is shown stands at the place or is told by it.
+use Rattle.tables.specs.Tables.{columns}
 use Rattle.register.proofs.Answers.{shown-by}
 use borrow.Author.Needs.{needs}
 use Rattle.register.proofs.Head.shown_at.Statement.{statement}
@@ -43,8 +44,8 @@ byte-requires c κs = search needs
 code-at-requires-3 : tie.Need-code-at-requires-3
 code-at-requires-3 c κs = search needs
 
-array-read-t37 : tie.Need-array-read-t37
-array-read-t37 c = search needs
+element-copy-out-t37 : tie.Need-element-copy-out-t37
+element-copy-out-t37 c = search needs
 
 array-read-byte-2 : tie.Need-array-read-byte-2
 array-read-byte-2 c = search needs
@@ -59,9 +60,14 @@ byte-requires-3 : tie.Need-byte-requires-3
 byte-requires-3 c κs = search needs
 
 returns : tie.Need-returns
-returns c loads =
-    let a = c .before .before .before .before .before .before .before .before .before .before .before .before in
-    shown-by (a .args .self) (record { keys = a .args .keys .now; marks = a .args .marks .now; rows = a .args .rows .now }) loads (a .args .i) _ _ _ _ _ _ _ _ (c .before .before .before .before .before .before .before .code-at .ensures _ loads) (c .before .before .before .before .before .before .code-at2 .ensures _ loads) (c .before .before .before .before .before .category-at .ensures _ loads) (c .before .before .before .before .steps-of .ensures) (c .before .before .code-at3 .ensures _ loads) (c .before .before .before .byte .ensures .0) (c .before .byte2 .ensures .0) (c .byte3 .ensures .0)
+returns c ids loads =
+    let p = c .before .before .before in
+    let q = p .before .before .before in
+    let a = q .before .before .before .before .before .before .args in
+    let cols = columns (a .statuses .now) ids (a .keys .now) (a .marks .now) (a .rows .now) in
+    shown-by (a .self) cols loads (a .i) _ _ _ _ _ _ _ _ (q .before .before .code-at .ensures cols loads) (q .before .code-at2 .ensures cols loads)
+    (q .category-at .ensures cols loads) (p .before .before .steps-of .ensures) (p .code-at3 .ensures cols loads) (p .before .byte .ensures .0)
+    (c .before .byte2 .ensures .0) (c .byte3 .ensures .0)
 
 pub shown-at-spec : {M : Type 1} → statement M
 shown-at-spec =
@@ -80,7 +86,7 @@ shown-at-spec =
     array-read-byte
     byte-requires
     code-at-requires-3
-    array-read-t37
+    element-copy-out-t37
     array-read-byte-2
     byte-requires-2
     array-read-byte-3

@@ -6,15 +6,12 @@ use Rattle.register_c.proofs.asking.flat.Lts as lts
 use Rattle.register_c.proofs.asking.number.Reads as number-reads
 use Rattle.register_c.proofs.asking.place.Reads as place-reads
 
--- src/asking.rt:66:17
 number-requires : tie.Need-number-requires
 number-requires c κs = search needs
 
--- src/asking.rt:67:16
 place-requires : tie.Need-place-requires
 place-requires c κs = search needs
 
--- src/asking.rt:54:1
 returns : tie.Need-returns
 returns c = cc
 

@@ -5,11 +5,9 @@ use Rattle.register_c.proofs.days.calendar_date.Reads as reads
 use Rattle.register_c.proofs.days.calendar_date.Lts as lts
 use Rattle.calendar.proofs.text_of.Reads as text-of-reads
 
--- src/days.rt:32:9
 text-of-requires : tie.Need-text-of-requires
 text-of-requires c κs = search needs
 
--- src/days.rt:28:1
 returns : tie.Need-returns
 returns c = cc
 

@@ -7,23 +7,18 @@ use Rattle.register_c.proofs.days.calendar_day.Reads as reads
 use Rattle.register_c.proofs.days.calendar_day.Lts as lts
 use Rattle.calendar.proofs.day_of.Reads as day-of-reads
 
--- src/days.rt:20:9
 day-of-requires : tie.Need-day-of-requires
 day-of-requires c κs = search needs
 
--- src/days.rt:22:21
 enum-known-day : tie.Need-enum-known-day
 enum-known-day c = search needs
 
--- src/days.rt:23:23
 enum-told : tie.Need-enum-told
 enum-told c = search needs
 
--- src/days.rt:16:1
 returns : tie.Need-returns
 returns c = sym (ap numberOfDay (c .before .day .given .1)) ∙ ap numberOfDay (c .before .before .before .day-of .ensures)
 
--- src/days.rt:16:1
 returns-2 : tie.Need-returns-2
 returns-2 c = sym (ap numberOfDay (c .enum-told .given .1)) ∙ ap numberOfDay (c .before .before .day-of .ensures)
 

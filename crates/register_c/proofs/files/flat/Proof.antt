@@ -6,15 +6,12 @@ use Rattle.register_c.proofs.files.flat.Lts as lts
 use Rattle.register_c.proofs.asking.number.Reads as number-reads
 use Rattle.register_c.proofs.asking.place.Reads as place-reads
 
--- src/files.rt:49:17
 number-requires : tie.Need-number-requires
 number-requires c κs = search needs
 
--- src/files.rt:50:16
 place-requires : tie.Need-place-requires
 place-requires c κs = search needs
 
--- src/files.rt:38:1
 returns : tie.Need-returns
 returns c = cc
 

@@ -7,23 +7,18 @@ use Rattle.register_c.proofs.files.flat_written.Reads as reads
 use Rattle.register_c.proofs.files.flat_written.Lts as lts
 use Rattle.register_c.proofs.files.unwritten.Reads as unwritten-reads
 
--- src/files.rt:99:26
 enum-known-x : tie.Need-enum-known-x
 enum-known-x c = search needs
 
--- src/files.rt:105:26
 enum-known-x-2 : tie.Need-enum-known-x-2
 enum-known-x-2 c = search needs
 
--- src/files.rt:105:32
 unwritten-requires : tie.Need-unwritten-requires
 unwritten-requires c κs = search needs
 
--- src/files.rt:95:1
 returns : tie.Need-returns
 returns c = sym (ap flatWritten (c .before .x .given .1))
 
--- src/files.rt:95:1
 returns-2 : tie.Need-returns-2
 returns-2 c = c .unwritten .ensures ∙ sym (ap flatWritten (c .before .before .x2 .given .1))
 

@@ -6,15 +6,12 @@ use Rattle.register_c.proofs.files.notification_read.Lts as lts
 use Rattle.reader.proofs.reading.read_file.Reads as read-file-reads
 use Rattle.register_c.proofs.files.flat.Reads as flat-reads
 
--- src/files.rt:106:10
 read-file-requires : tie.Need-read-file-requires
 read-file-requires c κs = search needs
 
--- src/files.rt:106:5
 flat-requires : tie.Need-flat-requires
 flat-requires c κs = search needs
 
--- src/files.rt:102:1
 returns : tie.Need-returns
 returns c = cc
 

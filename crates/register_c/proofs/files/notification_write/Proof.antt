@@ -8,27 +8,21 @@ use Rattle.register_c.proofs.files.flat_written.Reads as flat-written-r
 use Rattle.register_c.proofs.files.note_of.Reads as note-of-reads
 use Rattle.writer.proofs.writing.write_file.Reads as write-file-reads
 
--- src/files.rt:115:9
 note-of-requires : tie.Need-note-of-requires
 note-of-requires c κs = search needs
 
--- src/files.rt:116:9
 write-file-requires : tie.Need-write-file-requires
 write-file-requires c κs = search needs
 
--- src/files.rt:117:5
 flat-written-requires : tie.Need-flat-written-requires
 flat-written-requires c κs = search needs
 
--- src/files.rt:111:1
 same-length : tie.Need-same-length
 same-length c = search needs
 
--- src/files.rt:111:1
 same-length-2 : tie.Need-same-length-2
 same-length-2 c = search needs
 
--- src/files.rt:111:1
 returns : tie.Need-returns
 returns c =
     written-of (c .before .before .before .before .before .before .before .before .note-of .ensures)

@@ -6,15 +6,12 @@ use Rattle.register_c.proofs.files.unwritten.Lts as lts
 use Rattle.refusals.proofs.number_of.Reads as number-of-reads
 use Rattle.refusals.proofs.place_of.Reads as place-of-reads
 
--- src/files.rt:87:17
 number-of-requires : tie.Need-number-of-requires
 number-of-requires c κs = search needs
 
--- src/files.rt:88:16
 place-of-requires : tie.Need-place-of-requires
 place-of-requires c κs = search needs
 
--- src/files.rt:83:1
 returns : tie.Need-returns
 returns c = cc
 

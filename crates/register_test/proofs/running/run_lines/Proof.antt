@@ -5,10 +5,11 @@ use Rattle.register_test.proofs.running.run_lines.Statement.{statement}
 use Rattle.register_test.proofs.running.run_lines.Tie as tie
 
 abbrev Inv-loop : tie.InvT-loop
-Inv-loop keys₀ marks₀ rows₀ loads₀ text head₀ n k₀ t10 keys marks rows loads head k = Unit
+Inv-loop statuses₀ ids₀ keys₀ marks₀ rows₀ numbers₀ approved₀ loads₀ text head₀ n k₀ t15 statuses ids keys marks rows numbers approved loads head k = Unit
 
 abbrev μ-loop : tie.MeasureT-loop
-μ-loop keys₀ marks₀ rows₀ loads₀ text head₀ n k₀ t10 keys marks rows loads head k = n - k
+μ-loop statuses₀ ids₀ keys₀ marks₀ rows₀ numbers₀ approved₀ loads₀ text head₀ n k₀ t15 statuses ids keys marks rows numbers approved loads head k =
+    n - k
 
 fresh-requires : tie.Need-fresh-requires Inv-loop μ-loop
 fresh-requires c κs = search needs

@@ -61,21 +61,23 @@ part-number-in-end c = search needs
 number-in-requires : tie.Need-number-in-requires
 number-in-requires c κs = search needs
 
-cast-t22 : tie.Need-cast-t22
-cast-t22 c = search needs
+cast-t27 : tie.Need-cast-t27
+cast-t27 c = search needs
 
-cast-t23 : tie.Need-cast-t23
-cast-t23 c = search needs
+cast-t28 : tie.Need-cast-t28
+cast-t28 c = search needs
 
 returns-5 : tie.Need-returns-5
 returns-5 c =
-    engagement-good _ _ (c .before .before .before .before .before .before .before .before .before .before .before .before .text-end .ensures) _ (c .before .before .before .before .before .before .before .before .before .before .field-end .ensures) _ (c .before .before .before .before .before .before .before .before .date-end .ensures) _ (c .before .before .before .before .before .before .field-end2 .ensures) (c .before .before .before .before .before .if4 .left) _ _ (c .before .before .before .day-in .ensures)
-    (c .before .number-in .ensures) (c .before .before .before .before .before .before .before .before .before .if2 .left) (c .if5 .taken)
+    let d = c .before .before .before .before .before .before in
+    let b = d .before .before .before .before in
+    engagement-good _ _ (b .before .before .text-end .ensures) _ (b .field-end .ensures) _ (d .before .before .date-end .ensures) _ (d .field-end2 .ensures) (c .before .before .before .before .before .if4 .left) _ _ (c .before .before .before .day-in .ensures) (c .before .number-in .ensures) (c .if5 .taken)
 
 returns-6 : tie.Need-returns-6
 returns-6 c =
-    engagement-bad _ _ (c .before .before .before .before .before .before .before .before .before .before .before .before .text-end .ensures) _ (c .before .before .before .before .before .before .before .before .before .before .field-end .ensures) _ (c .before .before .before .before .before .before .before .before .date-end .ensures) _ (c .before .before .before .before .before .before .field-end2 .ensures) (c .before .before .before .before .before .if4 .left) _ _ (c .before .before .before .day-in .ensures)
-    (c .before .number-in .ensures) (c .if5 .left)
+    let d = c .before .before .before .before .before .before in
+    let b = d .before .before .before .before in
+    engagement-bad _ _ (b .before .before .text-end .ensures) _ (b .field-end .ensures) _ (d .before .before .date-end .ensures) _ (d .field-end2 .ensures) (c .before .before .before .before .before .if4 .left) _ _ (c .before .before .before .day-in .ensures) (c .before .number-in .ensures) (c .if5 .left)
 
 pub engagement-spec : {M : Type 1} → statement M
 engagement-spec =
@@ -100,7 +102,7 @@ engagement-spec =
     part-number-in-start
     part-number-in-end
     number-in-requires
-    cast-t22
-    cast-t23
+    cast-t27
+    cast-t28
     returns-5
     returns-6)

@@ -52,16 +52,20 @@ part-day-in-end-2 c = search needs
 day-in-requires-2 : tie.Need-day-in-requires-2
 day-in-requires-2 c κs = search needs
 
-cast-t21 : tie.Need-cast-t21
-cast-t21 c = search needs
+cast-t26 : tie.Need-cast-t26
+cast-t26 c = search needs
 
 returns-4 : tie.Need-returns-4
 returns-4 c =
-    enrol-good _ _ (c .before .before .before .before .before .before .before .before .before .before .text-end .ensures) _ (c .before .before .before .before .before .before .before .before .field-end .ensures) _ (c .before .before .before .before .before .before .field-end2 .ensures) (c .before .before .before .before .before .if3 .left) _ _ (c .before .before .before .day-in .ensures) (c .before .day-in2 .ensures) (c .before .before .before .before .before .before .before .before .before .if1 .left)
-    (c .if4 .taken)
+    let d = c .before .before .before .before .before .before in
+    let a = d .before .before .before .before .text-end .ensures in
+    enrol-good _ _ a _ (d .before .before .field-end .ensures) _ (d .field-end2 .ensures) (c .before .before .before .before .before .if3 .left) _ _ (c .before .before .before .day-in .ensures) (c .before .day-in2 .ensures) (c .if4 .taken)
 
 returns-5 : tie.Need-returns-5
-returns-5 c = enrol-bad _ _ (c .before .before .before .before .before .before .before .before .before .before .text-end .ensures) _ (c .before .before .before .before .before .before .before .before .field-end .ensures) _ (c .before .before .before .before .before .before .field-end2 .ensures) (c .before .before .before .before .before .if3 .left) _ _ (c .before .before .before .day-in .ensures) (c .before .day-in2 .ensures) (c .if4 .left)
+returns-5 c =
+    let d = c .before .before .before .before .before .before in
+    let a = d .before .before .before .before .text-end .ensures in
+    enrol-bad _ _ a _ (d .before .before .field-end .ensures) _ (d .field-end2 .ensures) (c .before .before .before .before .before .if3 .left) _ _ (c .before .before .before .day-in .ensures) (c .before .day-in2 .ensures) (c .if4 .left)
 
 pub enrol-spec : {M : Type 1} → statement M
 enrol-spec =
@@ -83,6 +87,6 @@ enrol-spec =
     part-day-in-start-2
     part-day-in-end-2
     day-in-requires-2
-    cast-t21
+    cast-t26
     returns-4
     returns-5)

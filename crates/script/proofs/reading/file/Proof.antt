@@ -19,8 +19,11 @@ text-end-requires-2 c κs = search needs
 returns-2 : tie.Need-returns-2
 returns-2 c = file-long _ _ (c .before .before .before .text-end .ensures) _ (c .before .text-end2 .ensures) (c .if2 .taken)
 
-cast-t7 : tie.Need-cast-t7
-cast-t7 c = search needs
+cast-t10 : tie.Need-cast-t10
+cast-t10 c = search needs
+
+cast-t11 : tie.Need-cast-t11
+cast-t11 c = search needs
 
 returns-3 : tie.Need-returns-3
 returns-3 c = file-good _ _ (c .before .before .before .text-end .ensures) _ (c .before .text-end2 .ensures) (c .before .before .if1 .left) (c .if2 .left)
@@ -34,5 +37,6 @@ file-spec =
     add-text-end
     text-end-requires-2
     returns-2
-    cast-t7
+    cast-t10
+    cast-t11
     returns-3)

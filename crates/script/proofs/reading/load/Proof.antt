@@ -1,7 +1,7 @@
 -- Each way through the fields.
-use native.Mathlib.Omega.{arith}
-use Rattle.script.proofs.LoadLines.{load-one, load-two, load-three, load-four, load-bad, load-filled, load-good}
 use borrow.Author.Needs.{needs}
+use native.Mathlib.Omega.{arith}
+use Rattle.script.proofs.LoadLines.{load-one, load-two, load-three, load-four, load-bad, load-good}
 use Rattle.script.proofs.reading.load.Statement.{statement}
 use Rattle.script.proofs.reading.load.Tie as tie
 
@@ -9,7 +9,7 @@ text-end-requires : tie.Need-text-end-requires
 text-end-requires c κs = search needs
 
 returns : tie.Need-returns
-returns c = load-one _ _ (c .before .text-end .ensures) _ (c .if1 .taken)
+returns c = load-one _ _ (c .before .text-end .ensures) (c .if1 .taken)
 
 add-field-end : tie.Need-add-field-end
 add-field-end c = search needs
@@ -18,7 +18,7 @@ field-end-requires : tie.Need-field-end-requires
 field-end-requires c κs = search needs
 
 returns-2 : tie.Need-returns-2
-returns-2 c = load-two _ _ (c .before .before .before .text-end .ensures) _ (c .before .field-end .ensures) _ (c .if2 .taken)
+returns-2 c = load-two _ _ (c .before .before .before .text-end .ensures) _ (c .before .field-end .ensures) (c .if2 .taken)
 
 add-third : tie.Need-add-third
 add-third c = search needs
@@ -27,7 +27,7 @@ date-end-requires : tie.Need-date-end-requires
 date-end-requires c κs = search needs
 
 returns-3 : tie.Need-returns-3
-returns-3 c = load-three _ _ (c .before .before .before .before .before .text-end .ensures) _ (c .before .before .before .field-end .ensures) _ (c .before .date-end .ensures) _ (c .if3 .taken)
+returns-3 c = load-three _ _ (c .before .before .before .before .before .text-end .ensures) _ (c .before .before .before .field-end .ensures) _ (c .before .date-end .ensures) (c .if3 .taken)
 
 add-fourth : tie.Need-add-fourth
 add-fourth c = search needs
@@ -36,7 +36,7 @@ field-end-requires-2 : tie.Need-field-end-requires-2
 field-end-requires-2 c κs = search needs
 
 returns-4 : tie.Need-returns-4
-returns-4 c = load-four _ _ (c .before .before .before .before .before .before .before .text-end .ensures) _ (c .before .before .before .before .before .field-end .ensures) _ (c .before .before .before .date-end .ensures) _ (c .before .field-end2 .ensures) _ (c .if4 .taken)
+returns-4 c = load-four _ _ (c .before .before .before .before .before .before .before .text-end .ensures) _ (c .before .before .before .before .before .field-end .ensures) _ (c .before .before .before .date-end .ensures) _ (c .before .field-end2 .ensures) (c .if4 .taken)
 
 sub-day-in : tie.Need-sub-day-in
 sub-day-in c = search needs
@@ -62,20 +62,17 @@ part-number-in-end c = search needs
 number-in-requires : tie.Need-number-in-requires
 number-in-requires c κs = search needs
 
-add-numbers-in : tie.Need-add-numbers-in
-add-numbers-in c = search needs
+add-from : tie.Need-add-from
+add-from c = search needs
 
-slice-aggregate-numbers-in : tie.Need-slice-aggregate-numbers-in
-slice-aggregate-numbers-in c = search needs
+count-in-requires : tie.Need-count-in-requires
+count-in-requires c κs = search needs
 
-numbers-in-requires : tie.Need-numbers-in-requires
-numbers-in-requires c κs = search needs
+cast-t32 : tie.Need-cast-t32
+cast-t32 c = search needs
 
-slice-aggregate-fill : tie.Need-slice-aggregate-fill
-slice-aggregate-fill c = search needs
-
-fill-requires : tie.Need-fill-requires
-fill-requires c κs = search needs
+cast-t33 : tie.Need-cast-t33
+cast-t33 c = search needs
 
 cast-t34 : tie.Need-cast-t34
 cast-t34 c = search needs
@@ -83,16 +80,17 @@ cast-t34 c = search needs
 cast-t35 : tie.Need-cast-t35
 cast-t35 c = search needs
 
-cast-t36 : tie.Need-cast-t36
-cast-t36 c = search needs
-
 returns-5 : tie.Need-returns-5
 returns-5 c =
-    load-good _ _ (c .before .before .before .before .before .before .before .before .before .before .before .before .before .before .before .before .before .before .text-end .ensures) _ (c .before .before .before .before .before .before .before .before .before .before .before .before .before .before .before .before .field-end .ensures) _ (c .before .before .before .before .before .before .before .before .before .before .before .before .before .before .date-end .ensures) _ (c .before .before .before .before .before .before .before .before .before .before .before .before .field-end2 .ensures) (c .before .before .before .before .before .before .before .before .before .before .before .if4 .left) _ _ _ (c .before .before .before .before .before .before .before .before .before .day-in .ensures) (c .before .before .before .before .before .before .before .number-in .ensures) (c .before .before .before .before .before .numbers-in .ensures .0) _ _ (c .before .fill-arg .given .0 .1) (omega (arith, c .before .before .before .before .before .numbers-in .ensures .1, c .before .before .before .before .before .before .before .before .before .before .before .before .before .before .before .before .before .before .before .before .pre .1)) (c .before .before .before .if5 .taken)
-    (load-filled _ _ (c .before .before .before .before .before .before .before .before .before .before .before .before .before .before .before .before .before .before .text-end .ensures) _ (c .before .before .before .before .before .before .before .before .before .before .before .before .before .before .before .before .field-end .ensures) _ (c .before .before .before .before .before .before .before .before .before .before .before .before .before .before .date-end .ensures) _ (c .before .before .before .before .before .before .before .before .before .before .before .before .field-end2 .ensures) (c .before .before .before .before .before .before .before .before .before .before .before .if4 .left) _ _ _ (c .before .before .before .before .before .before .before .before .before .day-in .ensures) (c .before .before .before .before .before .before .before .number-in .ensures) (c .before .before .before .before .before .numbers-in .ensures .0) _ _ _ _ (omega arith) (omega (arith, c .before .before .before .before .before .numbers-in .ensures .1, c .before .before .before .before .before .before .before .before .before .before .before .before .before .before .before .before .before .before .before .before .pre .1)) (c .before .before .before .if5 .taken) (c .before .before .before .before .before .numbers-in .ensures .2) (c .fill .ensures))
+    let d = c .before .before .before .before .before .before .before in
+    let b = d .before .before .before .before in
+    load-good _ _ (b .before .before .text-end .ensures) _ (b .field-end .ensures) _ (d .before .before .date-end .ensures) _ (d .field-end2 .ensures) (c .before .before .before .before .before .before .if4 .left) _ _ _ (c .before .before .before .before .day-in .ensures) (c .before .before .number-in .ensures) (c .before .count-in .ensures .0) (omega (arith, c .before .count-in .ensures .1, b .before .before .before .before .pre .1)) (c .if5 .taken)
 
 returns-6 : tie.Need-returns-6
-returns-6 c = load-bad _ _ (c .before .before .before .before .before .before .before .before .before .before .before .before .before .before .before .text-end .ensures) _ (c .before .before .before .before .before .before .before .before .before .before .before .before .before .field-end .ensures) _ (c .before .before .before .before .before .before .before .before .before .before .before .date-end .ensures) _ (c .before .before .before .before .before .before .before .before .before .field-end2 .ensures) (c .before .before .before .before .before .before .before .before .if4 .left) _ _ _ (c .before .before .before .before .before .before .day-in .ensures) (c .before .before .before .before .number-in .ensures) (c .before .before .numbers-in .ensures .0) _ (c .if5 .left)
+returns-6 c =
+    let d = c .before .before .before .before .before .before .before in
+    let b = d .before .before .before .before in
+    load-bad _ _ (b .before .before .text-end .ensures) _ (b .field-end .ensures) _ (d .before .before .date-end .ensures) _ (d .field-end2 .ensures) (c .before .before .before .before .before .before .if4 .left) _ _ _ (c .before .before .before .before .day-in .ensures) (c .before .before .number-in .ensures) (c .before .count-in .ensures .0) (c .if5 .left)
 
 pub load-spec : {M : Type 1} → statement M
 load-spec =
@@ -117,13 +115,11 @@ load-spec =
     part-number-in-start
     part-number-in-end
     number-in-requires
-    add-numbers-in
-    slice-aggregate-numbers-in
-    numbers-in-requires
-    slice-aggregate-fill
-    fill-requires
+    add-from
+    count-in-requires
+    cast-t32
+    cast-t33
     cast-t34
     cast-t35
-    cast-t36
     returns-5
     returns-6)

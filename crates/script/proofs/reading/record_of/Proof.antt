@@ -31,11 +31,11 @@ part-number-in-end c = search needs
 number-in-requires : tie.Need-number-in-requires
 number-in-requires c κs = search needs
 
-cast-t13 : tie.Need-cast-t13
-cast-t13 c = search needs
+cast-t16 : tie.Need-cast-t16
+cast-t16 c = search needs
 
 returns-3 : tie.Need-returns-3
-returns-3 c = record-good _ _ (c .before .before .before .before .before .before .text-end .ensures) _ (c .before .before .before .before .field-end .ensures) (c .before .before .before .if2 .left) _ (c .before .number-in .ensures) (c .before .before .before .before .before .if1 .left) (c .if3 .taken)
+returns-3 c = record-good _ _ (c .before .before .before .before .before .before .text-end .ensures) _ (c .before .before .before .before .field-end .ensures) (c .before .before .before .if2 .left) _ (c .before .number-in .ensures) (c .if3 .taken)
 
 returns-4 : tie.Need-returns-4
 returns-4 c = record-bad _ _ (c .before .before .before .before .before .before .text-end .ensures) _ (c .before .before .before .before .field-end .ensures) (c .before .before .before .if2 .left) _ (c .before .number-in .ensures) (c .if3 .left)
@@ -53,6 +53,6 @@ record-of-spec =
     part-number-in-start
     part-number-in-end
     number-in-requires
-    cast-t13
+    cast-t16
     returns-3
     returns-4)

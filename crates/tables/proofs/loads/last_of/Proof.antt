@@ -1,8 +1,8 @@
 -- What is found below `i` is what is found below the count, while four are passed at once and then one by one.
 use mathlib.Core.Path.{_≡_, sym, ap, _∙_}
-use Prim.Native.Nat.{_+_, _-_, _≤_, _<_, min}
+use Prim.Native.Nat.{_+_, _-_, _≤_, min}
 use native.Mathlib.Omega.{arith}
-use Rattle.tables.specs.Passing.{lastBelow}
+use Rattle.tables.specs.Passing.{lastBelow, lastLoad}
 use Rattle.tables.proofs.Down.{last-none}
 use Rattle.tables.proofs.Fours.{last-past-bits}
 use Rattle.tables.proofs.LoadTable.{isNumber, search-hit, search-skip}
@@ -62,6 +62,7 @@ element-copy-out-if2 : tie.Need-element-copy-out-if2 Inv-loop μ-loop Inv-loop2 
 element-copy-out-if2 c = search needs
 
 returns : tie.Need-returns Inv-loop μ-loop Inv-loop2 μ-loop2
+unfolding lastLoad
 returns c =
     let b = c .before .before .before .loop2 in
     let a = c .before .before .before .before .before .before .before .before .args in
@@ -77,6 +78,7 @@ loop2-again c =
     (omega arith, search-skip (a .keys .now) (a .number) (min (a .n) 64) (b .i) (omega arith) (b .inv .1) (c .if2 .left))
 
 returns-2 : tie.Need-returns-2 Inv-loop μ-loop Inv-loop2 μ-loop2
+unfolding lastLoad
 returns-2 c =
     let b = c .before .loop2 in
     let a = c .before .before .before .before .before .before .args in

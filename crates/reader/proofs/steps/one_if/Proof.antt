@@ -1,0 +1,14 @@
+-- Either answer.
+use mathlib.Core.Path.{sym}
+use native.Mathlib.Omega.{arith}
+use Rattle.reader.proofs.steps.one_if.Statement.{statement}
+use Rattle.reader.proofs.steps.one_if.Tie as tie
+
+returns : tie.Need-returns
+returns c = (sym (c .if1 .taken), omega arith)
+
+returns-2 : tie.Need-returns-2
+returns-2 c = (sym (c .if1 .left), omega arith)
+
+pub one-if-spec : {M : Type 1} → statement M
+one-if-spec = tie.close (tie.spec returns returns-2)

@@ -1,0 +1,70 @@
+-- `Head::file_note` meets its contract: a notification is judged by its places, and recorded.
+use mathlib.Core.Path.{sym, ap, _∙_}
+use Rattle.tables.specs.Tables.{columns, loadColumns}
+use Rattle.register.specs.View.{Register, lent}
+use Rattle.register.specs.Written.{seen}
+use Rattle.register.specs.declared.Reply.{Reply}
+use Rattle.register.proofs.Filings.{fileable-of}
+use Rattle.register.proofs.Notes.{note-refused, note-passed}
+use borrow.Author.Needs.{needs}
+use Rattle.register.proofs.Head.file_note.Statement.{statement}
+use Rattle.register.proofs.Head.file_note.Tie as tie
+
+places-requires : tie.Need-places-requires
+places-requires c κs = search needs
+
+judge-requires : tie.Need-judge-requires
+judge-requires c κs = search needs
+
+enum-known-verdict : tie.Need-enum-known-verdict
+enum-known-verdict c = search needs
+
+refused-requires : tie.Need-refused-requires
+refused-requires c κs = search needs
+
+returns : tie.Need-returns
+returns c =
+    let a = c .before .before .before .before .before .before .before .before .before .before .before .before .before .args in
+    let r : Register =
+    lent (a .self) (columns (a .statuses .now) (a .ids .now) (a .keys .now) (a .marks .now) (a .rows .now))
+    (loadColumns (a .numbers .now) (a .approved .now) (a .loads .now)) in
+    ap (λ (y : Reply). seen (lent (y .head) (r .columns) (r .loads)) (y .answer)) (c .refused .ensures)
+    ∙ note-refused r (a .entry) (a .submitter .now) (a .n) _ (c .before .before .before .before .before .before .before .before .before .before .before .places .ensures (r .columns) (r .loads)) _
+    (c .before .before .before .before .judge .ensures .0 (a .ids .now)) _ (c .before .before .verdict .given .1)
+
+enum-told : tie.Need-enum-told
+enum-told c = search needs
+
+record-note-requires : tie.Need-record-note-requires
+record-note-requires c κs =
+    let a = c .before .before .before .before .before .before .before .before .before .before .before .before .before .before .before .before .before .args in
+    let r : Register =
+    lent (a .self) (columns (a .statuses .now) (a .ids .now) (a .keys .now) (a .marks .now) (a .rows .now))
+    (loadColumns (a .numbers .now) (a .approved .now) (a .loads .now)) in
+    let judged = c .before .before .before .before .before .before .before .before .judge .ensures in
+    let passed = c .before .before .before .before .before .before .enum-told .given .1 in (
+      fileable-of (a .self) (r .columns) (r .loads) (a .entry) (c .before .before .before .before .before .before .before .before .before .before .before .before .before .before .before .places .result) (a .n .powers) (sym (judged .0 (a .ids .now)) ∙ passed),
+      judged .1 passed,
+    )
+
+returns-2 : tie.Need-returns-2
+returns-2 c =
+    let a = c .before .before .before .before .before .before .before .before .before .before .before .before .before .before .before .before .before .before .args in
+    let r : Register =
+    lent (a .self) (columns (a .statuses .now) (a .ids .now) (a .keys .now) (a .marks .now) (a .rows .now))
+    (loadColumns (a .numbers .now) (a .approved .now) (a .loads .now)) in
+    note-passed r (a .entry) (a .submitter .now) (a .n) _ (c .before .before .before .before .before .before .before .before .before .before .before .before .before .before .before .before .places .ensures (r .columns) (r .loads)) _
+    (c .before .before .before .before .before .before .before .before .before .judge .ensures .0 (a .ids .now)) (c .before .before .before .before .before .before .before .enum-told .given .1) _ (c .record-note .ensures (r .loads))
+
+pub file-note-spec : {M : Type 1} → statement M
+file-note-spec =
+    tie.close
+    (tie.spec
+    places-requires
+    judge-requires
+    enum-known-verdict
+    refused-requires
+    returns
+    enum-told
+    record-note-requires
+    returns-2)

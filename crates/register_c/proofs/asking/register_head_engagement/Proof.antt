@@ -1,0 +1,21 @@
+use mathlib.Core.Path.{_≡_, ap, sym, _∙_}
+use Rattle.answers.specs.Values.{saidEngaged}
+use borrow.Author.Needs.{needs}
+use Rattle.register_c.proofs.asking.register_head_engagement.Statement.{statement}
+use Rattle.register_c.proofs.asking.register_head_engagement.Tie as tie
+use Rattle.register_c.proofs.asking.register_head_engagement.Reads as reads
+use Rattle.register_c.proofs.asking.register_head_engagement.Lts as lts
+use Rattle.answers.proofs.of_engaged.Reads as of-engaged-reads
+use Rattle.register.proofs.Head.engagement.Reads as engagement-reads
+
+engagement-requires : tie.Need-engagement-requires
+engagement-requires c κs = search needs
+
+of-engaged-requires : tie.Need-of-engaged-requires
+of-engaged-requires c κs = search needs
+
+returns : tie.Need-returns
+returns c = λ ids approved. c .of-engaged .ensures ∙ ap saidEngaged (c .before .engagement .ensures ids approved)
+
+pub register-head-engagement-spec : {M : Type 1} → statement M
+register-head-engagement-spec = tie.close (tie.spec engagement-requires of-engaged-requires returns)

@@ -1,0 +1,79 @@
+-- The fields so far are numbers, and those that are left decide.
+use borrow.Author.Needs.{needs}
+use Prim.Native.Nat.{_+_, _-_}
+use native.Mathlib.Omega.{arith}
+use lib.ListN.{length}
+use Rattle.script.proofs.Powers.{Counted, counted-none, counted-bad, counted-more, counted-all}
+use Rattle.script.proofs.fields.count_in.Statement.{statement}
+use Rattle.script.proofs.fields.count_in.Tie as tie
+
+abbrev Inv-loop : tie.InvT-loop
+Inv-loop line from n count₀ at₀ count at = Counted line from at count
+
+abbrev μ-loop : tie.MeasureT-loop
+μ-loop line from n count₀ at₀ count at = length line + 1 - at
+
+loop-holds : tie.Need-loop-holds Inv-loop μ-loop
+loop-holds c = counted-none _ _ (c .before .pre)
+
+field-end-requires : tie.Need-field-end-requires Inv-loop μ-loop
+field-end-requires c κs = search needs
+
+sub-number-in : tie.Need-sub-number-in Inv-loop μ-loop
+sub-number-in c = omega (arith, c .field-end .ensures .after)
+
+part-number-in-start : tie.Need-part-number-in-start Inv-loop μ-loop
+part-number-in-start c = omega (arith, c .field-end .ensures .after)
+
+part-number-in-end : tie.Need-part-number-in-end Inv-loop μ-loop
+part-number-in-end c = omega (arith, c .field-end .ensures .inside)
+
+number-in-requires : tie.Need-number-in-requires Inv-loop μ-loop
+number-in-requires c κs = search needs
+
+returns : tie.Need-returns Inv-loop μ-loop
+returns c =
+    let f = c .before .before .before in
+    (counted-bad _ _ _ _ _ (f .before .before .loop .inv) (f .field-end .ensures) _ (c .before .number-in .ensures) (c .if1 .taken), omega (arith, f .before .before .before .before .pre))
+
+add-count : tie.Need-add-count Inv-loop μ-loop
+add-count c =
+    let f = c .before .before .before in
+    omega (arith, f .before .before .loop .inv .room, f .field-end .ensures .inside, f .field-end .ensures .after, f .before .before .before .before .good)
+
+add-at : tie.Need-add-at Inv-loop μ-loop
+add-at c =
+    let f = c .before .before .before in
+    omega (arith, f .field-end .ensures .inside, f .before .before .before .before .good)
+
+loop-less : tie.Need-loop-less Inv-loop μ-loop
+loop-less c = omega (arith, c .before .before .before .field-end .ensures .inside, c .before .before .before .field-end .ensures .after)
+
+loop-again : tie.Need-loop-again Inv-loop μ-loop
+loop-again c =
+    let f = c .before .before .before in
+    counted-more _ _ _ _ _ (f .before .before .loop .inv) (f .field-end .ensures) _ (c .before .number-in .ensures) (c .if1 .left)
+
+returns-2 : tie.Need-returns-2 Inv-loop μ-loop
+returns-2 c =
+    let i = c .before .loop .inv in
+    (counted-all _ _ _ _ (c .loop-test .left) i, omega (arith, i .room, i .inside))
+
+pub count-in-spec : {M : Type 1} → statement M
+count-in-spec =
+    tie.close
+    (tie.spec
+    Inv-loop
+    μ-loop
+    loop-holds
+    field-end-requires
+    sub-number-in
+    part-number-in-start
+    part-number-in-end
+    number-in-requires
+    returns
+    add-count
+    add-at
+    loop-less
+    loop-again
+    returns-2)

@@ -1,2 +1,0 @@
--- What a call leaves and says, as a law.
-pub mod Telling
