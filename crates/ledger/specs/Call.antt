@@ -5,11 +5,12 @@ use Rattle.notification.specs.Reading.{readFile}
 use Rattle.notification.specs.declared.Reading.{Reading}
 use Rattle.ledger.specs.declared.Entry.{Entry}
 
--- the form that a notification is handed in: the notification file, by its name and its body
+-- "file (submitter's code, file name, file body)": the form that a notification is handed in is the notification file, by its name and
+-- its body
 pub data Form : Type 0 where
   csv : (name body : List ℕ) → Form
 
--- what a submitter's form is read as, by 1 to 8; a file doesn't say who submits it
+-- "filing 1 to 8" come from the input alone: what a submitter's form is read as; a file doesn't say who submits it
 unfoldable pub readForm : (submitter : List ℕ) → Form → Reading
 readForm submitter (csv name body) = readFile name body
 

@@ -48,7 +48,7 @@ nobody = record { code = replicate 16 0; first = 0; last = 0 }
 abbrev pub inContract : Ledger → ℕ → ℕ → Bool
 inContract l a d = leb (getD (l .actors) a nobody .first) d && leb d (getD (l .actors) a nobody .last)
 
--- how many days after the clock's a filing through an entry may be for, and what refuses a later one
+-- 27, "is more than 7 days after it": how many days after the clock's a filing through an entry may be for, and what refuses a later one
 abbrev pub reachOf : Entry → ℕ
 reachOf SevenDays = 7
 

@@ -11,7 +11,7 @@ pub struct Actor {
     pub last: u32,
 }
 
-// The entry that a filing comes through: the one that looks seven days ahead.
+// The entry that a filing comes through: the one of document 01, which looks seven days ahead.
 pub enum Entry {
     SevenDays,
 }

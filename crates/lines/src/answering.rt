@@ -73,12 +73,14 @@ pub fn answer_lines(
 ) -> Progress
     ensures { λ r. ⌜
         (stands
-        (lent (r .head) (columns (now (statuses .exit)) (now (ids .exit)) (now (keys .exit)) (now (marks .exit)) (now (rows .exit)))
+        (lent (r .head) (columns (now (statuses .exit)) (now (ids .exit)) (now (keys .exit)) (now (marks .exit))
+        (now (rows .exit)))
         (loadColumns (now (numbers .exit)) (now (approved .exit)) (now (loads .exit))))
         (r .number) (r .at) (now (output .exit)) (r .out) (r .wants)
         ≡ walk readable (now (body .entry)) given
         (stands
-        (lent head (columns (now (statuses .entry)) (now (ids .entry)) (now (keys .entry)) (now (marks .entry)) (now (rows .entry)))
+        (lent head (columns (now (statuses .entry)) (now (ids .entry)) (now (keys .entry)) (now (marks .entry))
+        (now (rows .entry)))
         (loadColumns (now (numbers .entry)) (now (approved .entry)) (now (loads .entry))))
         number at (now (output .entry)) out Wants.Input)
         (linesIn (drop at (now (input .entry)))))

@@ -23,7 +23,8 @@ fn has_lf(s: &[u8]) -> bool
 // From a place on, the start of the sixteen bytes that have the first LF, or of fewer than sixteen bytes.
 fn near_end(s: &[u8], from: usize) -> usize
     requires { ⌜ from ≤ length (now s) ⌝ }
-    ensures { λ r. ⌜ (from ≤ r) × (r ≤ length (now (s .entry))) × (every (λ b. not (eqb b 10)) (take (r - from) (drop from (now (s .entry)))) ≡ true) ⌝ }
+    ensures { λ r. ⌜ (from ≤ r) × (r ≤ length (now (s .entry)))
+        × (every (λ b. not (eqb b 10)) (take (r - from) (drop from (now (s .entry)))) ≡ true) ⌝ }
 {
     let mut i = from;
     while 16 <= s.len() - i {

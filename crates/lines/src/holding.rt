@@ -11,7 +11,8 @@ const HELD: usize = 513;
 
 // Moves the bytes from a place to before another to the front, 513 of them at most, and gives how many they are.
 pub fn hold(input: &mut [u8], from: usize, to: usize) -> usize
-    ensures { λ r. ⌜ (now (input .exit) ≡ sets (now (input .entry)) 0 (heldOf (now (input .entry)) from to)) × (r ≡ length (heldOf (now (input .entry)) from to)) × (r ≤ 513) × (r ≤ length (now (input .entry))) ⌝ }
+    ensures { λ r. ⌜ (now (input .exit) ≡ sets (now (input .entry)) 0 (heldOf (now (input .entry)) from to))
+        × (r ≡ length (heldOf (now (input .entry)) from to)) × (r ≤ 513) × (r ≤ length (now (input .entry))) ⌝ }
 {
     let end = least(to, input.len());
     let mut n: usize = 0;
@@ -31,7 +32,8 @@ pub fn hold(input: &mut [u8], from: usize, to: usize) -> usize
 // Gives a last line its LF, behind the bytes that are held of it, and says where the input then ends: at 0 where nothing is held, since
 // there is no such line.
 pub fn end_line(input: &mut [u8], held: usize) -> usize
-    ensures { λ r. ⌜ (now (input .exit) ≡ ended (now (input .entry)) held) × (r ≡ endedAt (now (input .entry)) held) × (r ≤ length (now (input .entry))) ⌝ }
+    ensures { λ r. ⌜ (now (input .exit) ≡ ended (now (input .entry)) held) × (r ≡ endedAt (now (input .entry)) held)
+        × (r ≤ length (now (input .entry))) ⌝ }
 {
     if held == 0 {
         return 0;

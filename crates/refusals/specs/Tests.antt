@@ -30,6 +30,6 @@ abbrev pub decide : {A : Type 0} → Verdict → A → (Refusal → A) → A
 decide Pass done refused = done
 decide (No r) done refused = refused r
 
--- one test more: it is tried where those before it pass
+-- "Order": one test more, which is tried where those before it pass
 abbrev pub tried : Verdict → Test → Verdict
 tried v t = decide v (firstMet (t ∷ [])) No

@@ -121,7 +121,8 @@ impl Head {
 
     // The category at a place in six bytes, or zeros.
     fn category_at(self, place: u32) -> [u8; 6]
-        ensures { λ r. ⌜ ((columns : Columns) (loads : LoadColumns) → r ≡ categoryOf (view self columns loads) place) ⌝ }
+        ensures { λ r. ⌜ ((columns : Columns) (loads : LoadColumns) →
+            r ≡ categoryOf (view self columns loads) place) ⌝ }
     {
         let categories = self.categories;
         if place < least(categories.count, CATEGORIES) {
@@ -213,7 +214,8 @@ impl Head {
     ) -> Shown
         ensures { λ r. ⌜ ((loads : LoadColumns) →
             r ≡ askRecord (view self
-            (columns (now (statuses .entry)) (now (ids .entry)) (now (keys .entry)) (now (marks .entry)) (now (rows .entry)))
+            (columns (now (statuses .entry)) (now (ids .entry)) (now (keys .entry)) (now (marks .entry))
+            (now (rows .entry)))
             loads) (now (asker .entry)) id) ⌝ }
     {
         let actors = self.actors;

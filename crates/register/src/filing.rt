@@ -54,7 +54,8 @@ impl Head {
             (columns (now (statuses .exit)) (now (ids .exit)) (now (keys .exit)) (now (marks .exit)) (now (rows .exit)))
             loads) (r .answer)
             ≡ filesAt (lent self
-            (columns (now (statuses .entry)) (now (ids .entry)) (now (keys .entry)) (now (marks .entry)) (now (rows .entry)))
+            (columns (now (statuses .entry)) (now (ids .entry)) (now (keys .entry)) (now (marks .entry))
+            (now (rows .entry)))
             loads) (keyAt at) (at .submitter) ps) ⌝ }
     {
         let day = at.day;
@@ -129,7 +130,8 @@ impl Head {
             (columns (now (statuses .exit)) (now (ids .exit)) (now (keys .exit)) (now (marks .exit)) (now (rows .exit)))
             (loadColumns (now (numbers .entry)) (now (approved .entry)) (now (loads .entry)))) (r .answer)
             ≡ doesNote (lent self
-            (columns (now (statuses .entry)) (now (ids .entry)) (now (keys .entry)) (now (marks .entry)) (now (rows .entry)))
+            (columns (now (statuses .entry)) (now (ids .entry)) (now (keys .entry)) (now (marks .entry))
+            (now (rows .entry)))
             (loadColumns (now (numbers .entry)) (now (approved .entry)) (now (loads .entry))))
             entry (now (submitter .entry)) n ⌝ }
     {
@@ -185,7 +187,8 @@ impl Head {
             (columns (now (statuses .exit)) (now (ids .exit)) (now (keys .exit)) (now (marks .exit)) (now (rows .exit)))
             (loadColumns (now (numbers .entry)) (now (approved .entry)) (now (loads .entry)))) (r .answer)
             ≡ does (lent self
-            (columns (now (statuses .entry)) (now (ids .entry)) (now (keys .entry)) (now (marks .entry)) (now (rows .entry)))
+            (columns (now (statuses .entry)) (now (ids .entry)) (now (keys .entry)) (now (marks .entry))
+            (now (rows .entry)))
             (loadColumns (now (numbers .entry)) (now (approved .entry)) (now (loads .entry))))
             (file Entry.SevenDays (now (submitter .entry)) (csv (now (name .entry)) (now (body .entry)))) ⌝ }
     {

@@ -141,7 +141,8 @@ impl Head {
 
     // 26 to 30: the day and the contracts.
     fn timely(self, entry: Entry, at: Places) -> Verdict
-        requires { ⌜ (at .ceder < length (actorsIn (self .actors))) × (at .acquirer < length (actorsIn (self .actors))) ⌝ }
+        requires { ⌜ (at .ceder < length (actorsIn (self .actors)))
+            × (at .acquirer < length (actorsIn (self .actors))) ⌝ }
         ensures { λ r. ⌜ ((columns : Columns) (loads : LoadColumns) →
             r ≡ firstMet (dayTests (view self columns loads) entry (keyAt at))) ⌝ }
     {

@@ -1,4 +1,5 @@
--- A line as it is read: its texts are spans of the line, and its powers are the fields from a place on.
+-- A line of the script as it is read (document 01, "The script program"): its texts are spans of the line, and its powers are the fields
+-- from a place on.
 use mathlib.Core.Path.{_≡_}
 use mathlib.Core.Bool.{Bool, true, false}
 use mathlib.Core.List.{List, map}

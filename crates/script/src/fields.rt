@@ -128,7 +128,8 @@ pub(crate) fn number_in(s: &[u8]) -> u32
 // How many numbers the fields from a place on are; 0 where one of them is no number.
 pub(crate) fn count_in(line: &[u8], from: usize) -> usize
     requires { ⌜ from ≤ length (now line) ⌝ }
-    ensures { λ r. ⌜ (r ≡ countIn (fieldsFrom (now (line .entry)) from)) × (r * 2 + from ≤ length (now (line .entry)) + 1) ⌝ }
+    ensures { λ r. ⌜ (r ≡ countIn (fieldsFrom (now (line .entry)) from))
+        × (r * 2 + from ≤ length (now (line .entry)) + 1) ⌝ }
 {
     let n = line.len();
     let mut count: usize = 0;

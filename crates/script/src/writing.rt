@@ -39,7 +39,8 @@ fn put_value(out: &mut [u8], at: usize, letter: bool, v: u32) -> usize
 // Puts the first of three values, each after a comma.
 fn put_values(out: &mut [u8], at: usize, letter: u32, count: u32, values: [u32; 3]) -> usize
     requires { ⌜ at + 33 ≤ length (now out) ⌝ }
-    ensures { λ r. ⌜ Placed (now (out .entry)) at (valuesText letter 0 (take count values)) (now (out .exit)) r × (r ≤ at + 33) ⌝ }
+    ensures { λ r. ⌜ Placed (now (out .entry)) at (valuesText letter 0 (take count values)) (now (out .exit)) r
+        × (r ≤ at + 33) ⌝ }
 {
     let mut next = at;
     let mut i: u32 = 0;
@@ -82,7 +83,8 @@ fn put_answer(out: &mut [u8], at: usize, number: u64, said: Said) -> usize
 // Writes the line that answers at a place of a lent buffer, the rest untouched, and gives the place after it. A buffer that has no 64
 // bytes from that place on stays as it is.
 pub fn write_answer(number: u64, said: Said, out: &mut [u8], at: usize) -> usize
-    ensures { λ r. ⌜ (now (out .exit) ≡ answerPut (now (out .entry)) at number said) × (r ≡ answerEnd (now (out .entry)) at number said) × (r ≤ at + 64) ⌝ }
+    ensures { λ r. ⌜ (now (out .exit) ≡ answerPut (now (out .entry)) at number said)
+        × (r ≡ answerEnd (now (out .entry)) at number said) × (r ≤ at + 64) ⌝ }
 {
     if out.len() < LINE_ROOM {
         return at;

@@ -31,11 +31,13 @@ pub fn answer(
 ) -> Turn
     ensures { λ r. ⌜
         tells
-        (lent (r .head) (columns (now (statuses .exit)) (now (ids .exit)) (now (keys .exit)) (now (marks .exit)) (now (rows .exit)))
+        (lent (r .head) (columns (now (statuses .exit)) (now (ids .exit)) (now (keys .exit)) (now (marks .exit))
+        (now (rows .exit)))
         (loadColumns (now (numbers .exit)) (now (approved .exit)) (now (loads .exit))))
         (r .said)
         ≡ lineStep
-        (lent head (columns (now (statuses .entry)) (now (ids .entry)) (now (keys .entry)) (now (marks .entry)) (now (rows .entry)))
+        (lent head (columns (now (statuses .entry)) (now (ids .entry)) (now (keys .entry)) (now (marks .entry))
+        (now (rows .entry)))
         (loadColumns (now (numbers .entry)) (now (approved .entry)) (now (loads .entry))))
         readable (now (body .entry)) (asked (now (line .entry)) read) ⌝ }
 {

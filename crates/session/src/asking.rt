@@ -89,7 +89,8 @@ pub fn ask(
         r
         ≡ askStep
         (view head
-        (columns (now (statuses .entry)) (now (ids .entry)) (now (keys .entry)) (now (marks .entry)) (now (rows .entry)))
+        (columns (now (statuses .entry)) (now (ids .entry)) (now (keys .entry)) (now (marks .entry))
+        (now (rows .entry)))
         (loadColumns (now (numbers .entry)) approved (now (loads .entry))))
         (asked (now (line .entry)) read)) ⌝ }
 {

@@ -30,9 +30,12 @@ pub(crate) fn called(
 ) -> Turn
     ensures { λ r. ⌜
         ((columns : Columns) →
-        tells (lent (r .head) columns (loadColumns (now (numbers .exit)) (now (approved .exit)) (now (loads .exit)))) (r .said)
-        ≡ told (does (lent head columns (loadColumns (now (numbers .entry)) (now (approved .entry)) (now (loads .entry))))
-        (callOf call (firstText (now (line .entry)) read) (secondText (now (line .entry)) read) (read .day) (read .number)
+        tells (lent (r .head) columns (loadColumns (now (numbers .exit)) (now (approved .exit)) (now (loads .exit))))
+        (r .said)
+        ≡ told (does (lent head columns (loadColumns (now (numbers .entry)) (now (approved .entry))
+        (now (loads .entry))))
+        (callOf call (firstText (now (line .entry)) read) (secondText (now (line .entry)) read) (read .day)
+        (read .number)
         (powersOf (now (line .entry)) read)))) ⌝ }
 {
     match call {
@@ -81,13 +84,16 @@ pub fn filed(
 ) -> Turn
     ensures { λ r. ⌜
         tells
-        (lent (r .head) (columns (now (statuses .exit)) (now (ids .exit)) (now (keys .exit)) (now (marks .exit)) (now (rows .exit)))
+        (lent (r .head) (columns (now (statuses .exit)) (now (ids .exit)) (now (keys .exit)) (now (marks .exit))
+        (now (rows .exit)))
         (loadColumns (now (numbers .entry)) (now (approved .entry)) (now (loads .entry))))
         (r .said)
         ≡ lineStep
-        (lent head (columns (now (statuses .entry)) (now (ids .entry)) (now (keys .entry)) (now (marks .entry)) (now (rows .entry)))
+        (lent head (columns (now (statuses .entry)) (now (ids .entry)) (now (keys .entry)) (now (marks .entry))
+        (now (rows .entry)))
         (loadColumns (now (numbers .entry)) (now (approved .entry)) (now (loads .entry))))
-        readable (now (body .entry)) (fileOf (firstText (now (line .entry)) read) (secondText (now (line .entry)) read)) ⌝ }
+        readable (now (body .entry)) (fileOf (firstText (now (line .entry)) read)
+        (secondText (now (line .entry)) read)) ⌝ }
 {
     if !readable {
         return Turn {

@@ -18,7 +18,8 @@ const POWER_END: u16 = 10000;
 
 // How many of a category's six bytes are its text.
 pub(crate) fn category_length(category: [u8; 6]) -> usize
-    ensures { λ r. ⌜ (take r category ≡ categoryText category) × (r ≡ length (categoryText category)) × (r ≤ length category) ⌝ }
+    ensures { λ r. ⌜ (take r category ≡ categoryText category) × (r ≡ length (categoryText category))
+        × (r ≤ length category) ⌝ }
 {
     if category[5] == 0 { 5 } else { 6 }
 }

@@ -71,7 +71,8 @@ pub(crate) fn line_length(steps: u32, step: u32, p: u16) -> usize
 // Puts a label and `;`.
 fn put_label(buffer: &mut [u8], at: usize, label: Label) -> usize
     requires { ⌜ (at + label .len < length (now buffer)) × (label .len ≤ length (label .bytes)) ⌝ }
-    ensures { λ r. ⌜ Placed (now (buffer .entry)) at (take (label .len) (label .bytes) ++ 59 ∷ []) (now (buffer .exit)) r ⌝ }
+    ensures { λ r. ⌜ Placed (now (buffer .entry)) at (take (label .len) (label .bytes) ++ 59 ∷ [])
+        (now (buffer .exit)) r ⌝ }
 {
     let bytes = label.bytes;
     let len = label.len as usize;
@@ -103,7 +104,8 @@ fn put_power(buffer: &mut [u8], at: usize, p: u16) -> usize
 
 // Puts a step's line.
 pub(crate) fn put_line(buffer: &mut [u8], at: usize, steps: u32, step: u32, p: u16) -> usize
-    requires { ⌜ (step < steps) × (steps ≤ longSteps) × (p < powerEnd) × (at + length (stepText steps step p) ≤ length (now buffer)) ⌝ }
+    requires { ⌜ (step < steps) × (steps ≤ longSteps) × (p < powerEnd)
+        × (at + length (stepText steps step p) ≤ length (now buffer)) ⌝ }
     ensures { λ r. ⌜ Placed (now (buffer .entry)) at (stepText steps step p) (now (buffer .exit)) r ⌝ }
 {
     let second = put_labels(&mut *buffer, at, steps, step);

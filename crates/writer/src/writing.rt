@@ -139,8 +139,10 @@ fn put_header(buffer: &mut [u8], key: Key) -> usize
 
 // Puts the lines of a day's steps.
 fn put_lines(buffer: &mut [u8], at: usize, steps: u32, powers: &[u16]) -> usize
-    requires { ⌜ Powered steps (now powers) × (at + length (linesOf steps 0 (take steps (now powers))) ≤ length (now buffer)) ⌝ }
-    ensures { λ r. ⌜ Placed (now (buffer .entry)) at (linesOf steps 0 (take steps (now (powers .entry)))) (now (buffer .exit)) r ⌝ }
+    requires { ⌜ Powered steps (now powers) × (at + length (linesOf steps 0 (take steps (now powers))) ≤ length
+        (now buffer)) ⌝ }
+    ensures { λ r. ⌜ Placed (now (buffer .entry)) at (linesOf steps 0 (take steps (now (powers .entry))))
+        (now (buffer .exit)) r ⌝ }
 {
     let mut next = at;
     let mut k: u32 = 0;
