@@ -1,6 +1,7 @@
 -- What is true of tests, searches, places and sums.
 pub mod Tests
 pub mod Below
+pub mod ByteSearch
 pub mod Searches
 pub mod Parts
 pub mod All

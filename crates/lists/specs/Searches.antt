@@ -1,8 +1,9 @@
 -- Tests of lists, and searches in them.
 use mathlib.Core.Bool.{Bool, true, false, cond, _&&_, _||_}
 use mathlib.Core.List.{List, [], _∷_}
-use Prim.Native.Nat.{ℕ, zero, suc}
+use Prim.Native.Nat.{ℕ, zero, suc, _+_}
 use lib.Dec.{eqb}
+use lib.ListN.{drop}
 
 -- two texts are the same, byte for byte
 unfoldable pub same : List ℕ → List ℕ → Bool
@@ -31,3 +32,10 @@ module _ {A : Type 0} where
 unfoldable pub firstFrom : (ℕ → Bool) → ℕ → ℕ → ℕ
 firstFrom p i zero = i
 firstFrom p i (suc n) = cond (p i) i (firstFrom p (suc i) n)
+
+-- the place of a byte of a text, from a place on; the end of the text where there is none
+abbrev pub isByte : ℕ → ℕ → Bool
+isByte b x = eqb x b
+
+unfoldable pub byteFrom : ℕ → List ℕ → ℕ → ℕ
+byteFrom b s from = from + placeOf (isByte b) (drop from s)
