@@ -1,5 +1,5 @@
 -- What the writer answers, test by test, and what it leaves in the two buffers.
-use mathlib.Core.Path.{_≡_, sym}
+use mathlib.Core.Path.{_≡_, sym, _∙_}
 use mathlib.Core.Bool.{Bool, true, false, not, _||_}
 use mathlib.Core.List.{List, [], _∷_, _++_}
 use Prim.Native.Nat.{ℕ, _≤_}
@@ -8,12 +8,12 @@ use lib.Dec.{ltb}
 use lib.ListN.{length}
 use borrow.Author.Tests.{ltb-false, not-false}
 use Rattle.lists.proofs.Tests.{or-left, or-right}
-use Rattle.refusals.specs.Tests.{input, state}
+use Rattle.refusals.specs.Tests.{input, state, firstMet, tried}
 use Rattle.refusals.specs.declared.Refusal.{Refusal}
 use Rattle.refusals.specs.declared.InputRefusal.the-variants.{Form, Range, Zeros}
 use Rattle.refusals.specs.declared.StateRefusal.the-variants.{Full}
 use Rattle.refusals.specs.declared.Verdict.the-variants.{Pass, No}
-use Rattle.refusals.proofs.Tests.{pass-all}
+use Rattle.refusals.proofs.Tests.{pass-all, pass-append, refuse-append, triedAll, tried-first}
 use Rattle.notification.specs.Forms.{allZero}
 use Rattle.notification.specs.Writing.{nameOf, bodyOf, formed, ranged, noteTests, tooShort, writeVerdict, writeAnswer, written}
 use Rattle.writer.specs.Placing.{Placed, FileWritten}
@@ -21,31 +21,29 @@ use Rattle.notification.specs.declared.Notification.{Notification}
 use Rattle.notification.specs.declared.Written.the-variants.{Lengths, Refused}
 use Rattle.writer.proofs.Placed.{placed-first}
 
--- ---- the tests, each where those before it are not met
+-- ---- 9, 10, 8, and then 36
 
-module _ (n : Notification) (name body : ℕ) (f : Bool) (ef : f ≡ formed (n .key)) where
-  pub refused-form : not f ≡ true → No (input Form) ≡ writeVerdict n name body
+pub notes-tried : (n : Notification) (f g z : Bool) → f ≡ formed (n .key) → g ≡ ranged n → z ≡ allZero (n .powers) →
+    triedAll Pass ((not f, input Form) ∷ (not g, input Range) ∷ (z, input Zeros) ∷ []) ≡ firstMet (noteTests n)
+notes-tried n f g z ef eg ez = tried-first ((not f, input Form) ∷ (not g, input Range) ∷ (z, input Zeros) ∷ []) ∙ rw (ef, eg, ez)
+
+module _ (n : Notification) where
+  pub note-refused : (name body : ℕ) (r : Refusal) → firstMet (noteTests n) ≡ No r → No r ≡ writeVerdict n name body
   unfolding writeVerdict
-  refused-form t = rw (← ef, t)
+  note-refused name body r e = sym (refuse-append r (noteTests n) ((tooShort n name body, state Full) ∷ []) e)
 
-  module _ (tf : not f ≡ false) (g : Bool) (eg : g ≡ ranged n) where
-    pub refused-range : not g ≡ true → No (input Range) ≡ writeVerdict n name body
+  module _ (e : firstMet (noteTests n) ≡ Pass) where
+    pub note-formed : formed (n .key) ≡ true
+    note-formed = not-false _ (pass-all (noteTests n) e .0)
+
+    pub note-ranged : ranged n ≡ true
+    note-ranged = not-false _ (pass-all (noteTests n) e .1 .0)
+
+    -- only the buffers are left to be tried
+    pub note-passed : (name body a b : ℕ) → a ≡ length (nameOf (n .key)) → b ≡ length (bodyOf n) →
+        tried Pass (ltb name a || ltb body b, state Full) ≡ writeVerdict n name body
     unfolding writeVerdict
-    refused-range t = rw (← ef, tf, ← eg, t)
-
-    module _ (tg : not g ≡ false) (z : Bool) (ez : z ≡ allZero (n .powers)) where
-      pub refused-zeros : z ≡ true → No (input Zeros) ≡ writeVerdict n name body
-      unfolding writeVerdict
-      refused-zeros t = rw (← ef, tf, ← eg, tg, ← ez, t)
-
-      module _ (tz : z ≡ false) (a b : ℕ) (ea : a ≡ length (nameOf (n .key))) (eb : b ≡ length (bodyOf n)) where
-        pub refused-full : (ltb name a || ltb body b) ≡ true → No (state Full) ≡ writeVerdict n name body
-        unfolding writeVerdict
-        refused-full t = rw (← ef, tf, ← eg, tg, ← ez, tz, ← ea, ← eb, t)
-
-        pub passes : (ltb name a || ltb body b) ≡ false → Pass ≡ writeVerdict n name body
-        unfolding writeVerdict
-        passes t = rw (← ef, tf, ← eg, tg, ← ez, tz, ← ea, ← eb, t)
+    note-passed name body a b ea eb = rw (ea, eb) (sym (pass-append (noteTests n) ((tooShort n name body, state Full) ∷ []) e))
 
 -- ---- what a pass says
 

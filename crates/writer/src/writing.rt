@@ -4,7 +4,6 @@ ghost use mathlib.Core.Bool.{true};
 ghost use mathlib.Core.List.{[], _∷_, _++_};
 ghost use Prim.Native.Nat.{_+_, _≤_};
 ghost use lib.ListN.{length, take};
-ghost use Rattle.refusals.specs.Tests.{input, state};
 ghost use Rattle.notification.specs.Writing.{nameOf, headerOf, linesOf, bodyOf, formed, ranged, writeVerdict};
 ghost use Rattle.writer.specs.Placing.{Placed, Powered, keyStart, FileWritten};
 use crate::checks::category_length;
@@ -20,9 +19,10 @@ use notification::Key;
 use notification::Notification;
 use notification::Written;
 use refusals::InputRefusal;
-use refusals::Refusal;
 use refusals::StateRefusal;
 use refusals::Verdict;
+use refusals::trying::try_input;
+use refusals::trying::try_state;
 
 // How long a name is but for the category, and a header with its LF.
 const NAME_FRAME: usize = 51;
@@ -64,38 +64,20 @@ fn name_length(key: Key) -> usize
     NAME_FRAME + category_length(category)
 }
 
-// A refusal that comes from the input, without a place.
-fn no_input(f: InputRefusal) -> Verdict
-    ensures { λ r. ⌜ r ≡ Verdict.No (input f) ⌝ }
-{
-    Verdict::No(Refusal::Input(f, 0))
-}
-
-// A refusal that comes from the state, without a place.
-fn no_state(f: StateRefusal) -> Verdict
-    ensures { λ r. ⌜ r ≡ Verdict.No (state f) ⌝ }
-{
-    Verdict::No(Refusal::State(f, 0))
-}
-
-// What writing comes to, by the lengths of the two buffers: 9, 10, 8 and 36 in this order.
+// What writing comes to, by the lengths of the two buffers: 9, 10, 8 and 36 in this order. Only a notification that
+// passes the first three has texts whose lengths 36 can be tried by.
 pub fn write_verdict(n: Notification, name: usize, body: usize) -> Verdict
     ensures { λ r. ⌜ r ≡ writeVerdict n name body ⌝ }
 {
     let key = n.key;
-    if !is_formed(key) {
-        return no_input(InputRefusal::Form);
+    let v = try_input(Verdict::Pass, !is_formed(key), InputRefusal::Form);
+    let v = try_input(v, !is_ranged(n), InputRefusal::Range);
+    let v = try_input(v, is_zero(n), InputRefusal::Zeros);
+    if let Verdict::No(r) = v {
+        return Verdict::No(r);
     }
-    if !is_ranged(n) {
-        return no_input(InputRefusal::Range);
-    }
-    if is_zero(n) {
-        return no_input(InputRefusal::Zeros);
-    }
-    if (name < name_length(key)) | (body < body_length(n)) {
-        return no_state(StateRefusal::Full);
-    }
-    Verdict::Pass
+    let short = (name < name_length(key)) | (body < body_length(n));
+    try_state(Verdict::Pass, short, StateRefusal::Full)
 }
 
 // Puts ceder, acquirer and date, each ended by a byte.

@@ -1,103 +1,90 @@
--- `writing::write_verdict` meets its contract: its tests are the definition's, in their order.
+-- `writing::write_verdict` meets its contract: 9, 10 and 8 are tried one after the other, then 36 by the lengths of the texts.
 use borrow.Author.Needs.{needs}
-use mathlib.Core.Path.{sym, _∙_}
-use borrow.Author.Tests.{not-false}
-use Rattle.writer.proofs.Answers.{refused-form, refused-range, refused-zeros, refused-full, passes}
+use mathlib.Core.Path.{_≡_, sym, _∙_}
+use Rattle.refusals.specs.Tests.{firstMet}
+use Rattle.refusals.specs.declared.Verdict.the-variants.{Pass}
+use Rattle.notification.specs.Writing.{noteTests}
+use Rattle.writer.proofs.Answers.{notes-tried, note-refused, note-formed, note-ranged, note-passed}
 use Rattle.writer.proofs.writing.write_verdict.Statement.{statement}
 use Rattle.writer.proofs.writing.write_verdict.Tie as tie
+
+-- what is known when three tests are tried
+module _ (t : tie.After-try-input3) where
+  abbrev ranged : tie.After-is-ranged
+  ranged = t .before .before .before
+
+  abbrev formed : tie.After-is-formed
+  formed = ranged .before .before
+
+  abbrev start : tie.Start
+  start = formed .before .before
+
+  noted : t .try-input3 .result ≡ firstMet (noteTests (start .args .n))
+  noted =
+      let e = notes-tried (start .args .n) _ _ _ (formed .is-formed .ensures) (ranged .is-ranged .ensures) (t .before .is-zero .ensures) in
+      cc
+
+-- where they pass
+passed : (c : tie.After-enum-told) → firstMet (noteTests (start (c .before .before) .args .n)) ≡ Pass
+passed c = sym (noted (c .before .before)) ∙ c .enum-told .given .1
 
 is-formed-requires : tie.Need-is-formed-requires
 is-formed-requires c κs = search needs
 
-no-input-requires : tie.Need-no-input-requires
-no-input-requires c κs = search needs
-
-returns : tie.Need-returns
-returns c =
-    let a = c .before .before .before .before in
-    let f = c .before .before in
-    c .no-input .ensures ∙ refused-form (a .args .n) (a .args .name) (a .args .body) _ (f .is-formed .ensures) (c .before .if1 .taken)
+try-input-requires : tie.Need-try-input-requires
+try-input-requires c κs = search needs
 
 is-ranged-requires : tie.Need-is-ranged-requires
 is-ranged-requires c κs = search needs
 
-no-input-requires-2 : tie.Need-no-input-requires-2
-no-input-requires-2 c κs = search needs
-
-returns-2 : tie.Need-returns-2
-returns-2 c =
-    let a = c .before .before .before .before .before .before in
-    let f = c .before .before .before .before in
-    let g = c .before .before in
-    c .no-input2 .ensures ∙ refused-range (a .args .n) (a .args .name) (a .args .body) _ (f .is-formed .ensures) (g .before .if1 .left) _
-    (g .is-ranged .ensures) (c .before .if2 .taken)
+try-input-requires-2 : tie.Need-try-input-requires-2
+try-input-requires-2 c κs = search needs
 
 is-zero-requires : tie.Need-is-zero-requires
 is-zero-requires c κs = search needs
 
-no-input-requires-3 : tie.Need-no-input-requires-3
-no-input-requires-3 c κs = search needs
+try-input-requires-3 : tie.Need-try-input-requires-3
+try-input-requires-3 c κs = search needs
 
-returns-3 : tie.Need-returns-3
-returns-3 c =
-    let a = c .before .before .before .before .before .before .before .before in
-    let f = c .before .before .before .before .before .before in
-    let g = c .before .before .before .before in
-    let z = c .before .before in
-    c .no-input3 .ensures ∙ refused-zeros (a .args .n) (a .args .name) (a .args .body) _ (f .is-formed .ensures) (g .before .if1 .left) _
-    (g .is-ranged .ensures) (z .before .if2 .left) _ (z .is-zero .ensures) (c .before .if3 .taken)
+enum-known-v : tie.Need-enum-known-v
+enum-known-v c = search needs
+
+returns : tie.Need-returns
+returns c =
+    let t = c .before .before .before in
+    note-refused (start t .args .n) _ _ _ (sym (noted t) ∙ c .before .v .given .1)
+
+enum-told : tie.Need-enum-told
+enum-told c = search needs
 
 name-length-requires : tie.Need-name-length-requires
-name-length-requires c κs =
-    let f = c .before .before .before .before .before in
-    sym (f .is-formed .ensures) ∙ not-false _ (c .before .before .before .before .if1 .left)
+name-length-requires c κs = note-formed _ (passed c)
 
 body-length-requires : tie.Need-body-length-requires
-body-length-requires c κs =
-    let f = c .before .before .before .before .before .before in
-    let g = c .before .before .before .before in
-    (sym (f .is-formed .ensures) ∙ not-false _ (g .before .if1 .left), sym (g .is-ranged .ensures) ∙ not-false _ (c .before .before .before .if2 .left))
+body-length-requires c κs = (note-formed _ (passed (c .before)), note-ranged _ (passed (c .before)))
 
-no-state-requires : tie.Need-no-state-requires
-no-state-requires c κs = search needs
+try-state-requires : tie.Need-try-state-requires
+try-state-requires c κs = search needs
 
-returns-4 : tie.Need-returns-4
-returns-4 c =
-    let a = c .before .before .before .before .before .before .before .before .before .before .before in
-    let f = c .before .before .before .before .before .before .before .before .before in
-    let g = c .before .before .before .before .before .before .before in
-    let z = c .before .before .before .before .before in
+returns-2 : tie.Need-returns-2
+returns-2 c =
     let l = c .before .before in
-    c .no-state .ensures ∙ refused-full (a .args .n) (a .args .name) (a .args .body) _ (f .is-formed .ensures) (g .before .if1 .left) _
-    (g .is-ranged .ensures) (z .before .if2 .left) _ (z .is-zero .ensures) (l .before .before .if3 .left) _ _ (l .before .name-length .ensures)
-    (l .body-length .ensures) (c .before .if4 .taken)
-
-returns-5 : tie.Need-returns-5
-returns-5 c =
-    let a = c .before .before .before .before .before .before .before .before .before .before in
-    let f = c .before .before .before .before .before .before .before .before in
-    let g = c .before .before .before .before .before .before in
-    let z = c .before .before .before .before in
-    let l = c .before in
-    passes (a .args .n) (a .args .name) (a .args .body) _ (f .is-formed .ensures) (g .before .if1 .left) _ (g .is-ranged .ensures)
-    (z .before .if2 .left) _ (z .is-zero .ensures) (l .before .before .if3 .left) _ _ (l .before .name-length .ensures) (l .body-length .ensures)
-    (c .if4 .left)
+    c .try-state .ensures ∙ note-passed _ (passed (l .before)) _ _ _ _ (l .name-length .ensures) (c .before .body-length .ensures)
 
 pub write-verdict-spec : {M : Type 1} → statement M
 write-verdict-spec =
     tie.close
     (tie.spec
     is-formed-requires
-    no-input-requires
-    returns
+    try-input-requires
     is-ranged-requires
-    no-input-requires-2
-    returns-2
+    try-input-requires-2
     is-zero-requires
-    no-input-requires-3
-    returns-3
+    try-input-requires-3
+    enum-known-v
+    returns
+    enum-told
     name-length-requires
     body-length-requires
-    no-state-requires
-    returns-4
-    returns-5)
+    try-state-requires
+    returns-2)
