@@ -1,7 +1,8 @@
 -- The first counted step by the day's place before or after the clock's, the steps that count, and moments: none is
 -- before itself, and what doesn't count at one moment doesn't count at a later one. What is replaced whole, and what can be loaded.
-use mathlib.Core.Path.{_≡_, refl}
-use mathlib.Core.Bool.{Bool, true, false, _&&_, _||_}
+use mathlib.Core.Path.{_≡_, refl, _∙_}
+use mathlib.Core.Bool.{Bool, true, false, not, _&&_, _||_}
+use mathlib.Core.List.{[], _∷_}
 use Prim.Native.Nat.{ℕ, _+_, _*_, _/_, _<_, _≤_}
 use native.Mathlib.Omega.{arith}
 use lib.Dec.{leb, ltb, eqb}
@@ -9,10 +10,13 @@ use borrow.Author.Tests.{ltb-true, ltb-false, leb-true, eqb-true, lt-ltb, le-ltb
 use Rattle.calendar.specs.Dates.{date}
 use Rattle.calendar.specs.Steps.{stepMinutes, lastSunday, stepsOf}
 use Rattle.calendar.specs.Clocks.{freshClock, firstCounted, counts, replacesWhole, loadable, isMoment, isBefore, advanceTests, advanced}
-use Rattle.refusals.specs.Tests.{firstMet, decide}
+use Rattle.refusals.specs.Tests.{input, state, firstMet, decide}
 use Rattle.refusals.specs.declared.Refusal.{Refusal}
+use Rattle.refusals.specs.declared.InputRefusal.the-variants.{Range}
+use Rattle.refusals.specs.declared.StateRefusal.the-variants.{Back}
 use Rattle.refusals.specs.declared.Verdict.{Verdict}
 use Rattle.refusals.specs.declared.Verdict.the-variants.{Pass, No}
+use Rattle.refusals.proofs.Tests.{triedAll, tried-first}
 use Rattle.calendar.specs.declared.clock.Clock.{Clock}
 use Rattle.calendar.specs.declared.clock.Advance.the-variants.{Moved, Refused}
 use Rattle.lists.proofs.Tests.{both-true, both-false, right-false}
@@ -110,6 +114,11 @@ unfolding loadable
 loadable-counts c day step e = counts-later c day step (ltb-true (c .day) day e)
 
 -- ---- advanced
+
+-- 10, 38, tried one after the other
+pub advance-tried : (c to : Clock) (moment before : Bool) → moment ≡ isMoment to → before ≡ isBefore to c →
+    triedAll Pass ((not moment, input Range) ∷ (before, state Back) ∷ []) ≡ firstMet (advanceTests c to)
+advance-tried c to moment before em eb = tried-first ((not moment, input Range) ∷ (before, state Back) ∷ []) ∙ rw (em, eb)
 
 -- what the clock answers tells what its tests come to
 module _ (c to : Clock) where

@@ -6,6 +6,9 @@ use crate::steps::steps_of;
 use refusals::InputRefusal;
 use refusals::Refusal;
 use refusals::StateRefusal;
+use refusals::Verdict;
+use refusals::trying::try_input;
+use refusals::trying::try_state;
 
 // The steps that the neutral hour takes from the clock's own on: the one that runs, and the next.
 const NEUTRAL_STEPS: u32 = 2;
@@ -84,12 +87,11 @@ impl Clock {
     pub fn advanced(self, to: Clock) -> Advance
         ensures { λ r. ⌜ r ≡ advanced self to ⌝ }
     {
-        if !to.is_moment() {
-            return Advance::Refused(Refusal::Input(InputRefusal::Range, 0));
+        let v = try_input(Verdict::Pass, !to.is_moment(), InputRefusal::Range);
+        let v = try_state(v, to.is_before(self), StateRefusal::Back);
+        match v {
+            Verdict::Pass => Advance::Moved(to),
+            Verdict::No(r) => Advance::Refused(r),
         }
-        if to.is_before(self) {
-            return Advance::Refused(Refusal::State(StateRefusal::Back, 0));
-        }
-        Advance::Moved(to)
     }
 }
