@@ -30,8 +30,8 @@ pub struct Labels {
     pub until: Label,
 }
 
-// The boundary between steps from which on the labels are counted back from midnight.
-fn turn(steps: u32) -> u32
+// The boundary between steps from which on the labels are counted back from midnight, with its bounds for the caller.
+pub fn turn_of(steps: u32) -> u32
     ensures { λ r. ⌜ (r ≡ turnOf steps) × (4 ≤ r) × (r ≤ 7) ⌝ }
 {
     if steps < PLAIN_STEPS {
@@ -46,7 +46,7 @@ fn minute_at(steps: u32, at: u32) -> u32
     requires { ⌜ (at ≤ steps) × (steps ≤ longSteps) ⌝ }
     ensures { λ r. ⌜ r ≡ minuteOf steps at ⌝ }
 {
-    if at < turn(steps) {
+    if at < turn_of(steps) {
         STEP_MINUTES * at
     } else {
         STEP_MINUTES * (at + PLAIN_STEPS - steps)
@@ -58,7 +58,7 @@ fn label_at(steps: u32, at: u32) -> Label
     requires { ⌜ (at ≤ steps) × (steps ≤ longSteps) ⌝ }
     ensures { λ r. ⌜ r ≡ labelOf steps at ⌝ }
 {
-    let t = turn(steps);
+    let t = turn_of(steps);
     let m = minute_at(steps, at);
     let a = digit(m / HOUR / 10);
     let b = digit(m / HOUR);

@@ -12,6 +12,7 @@ pub use crate::dates::DAYS;
 pub use crate::labels::Label;
 pub use crate::labels::Labels;
 pub use crate::labels::labels_of;
+pub use crate::labels::turn_of;
 pub use crate::steps::LONG_STEPS;
 pub use crate::steps::PLAIN_STEPS;
 pub use crate::steps::SHORT_STEPS;

@@ -7,8 +7,7 @@ use native.Mathlib.Omega.{arith}
 use lib.Dec.{leb, ltb, eqb}
 use lib.ListN.{length, getD, List·getD-eq-default}
 use borrow.Author.Tests.{eqb-true, lt-ltb, le-ltb, lt-leb, ltb-true, ltb-false}
-use Rattle.lists.proofs.Tests.{by-test, and-left, and-right}
-use Rattle.lists.proofs.Tests.{true-of}
+use Rattle.lists.proofs.Tests.{by-test, and-left, and-right, true-of}
 use Rattle.lists.proofs.Below.{below}
 use Rattle.calendar.specs.Steps.{plainSteps, stepMinutes}
 use Rattle.calendar.specs.Labels.{turnOf, minuteOf, againAt, labelOf}
@@ -26,12 +25,6 @@ right-mark j = eqb (sixAt timesText (6 * j)) (timeMark j)
 time-marks : (j : ℕ) → j < 49 → sixAt timesText (6 * j) ≡ timeMark j
 unfolding timesText right-mark
 time-marks j h = eqb-true (sixAt timesText (6 * j)) (timeMark j) (true-of (right-mark j) (below right-mark 49 tt j h))
-
-pub turn-short : (steps : ℕ) → steps < plainSteps → 4 ≡ turnOf steps
-turn-short steps h = rw (lt-ltb steps plainSteps h)
-
-pub turn-long : (steps : ℕ) → plainSteps ≤ steps → 7 ≡ turnOf steps
-turn-long steps h = rw (le-ltb steps plainSteps h)
 
 and-false : (a : Bool) → (a && false) ≡ false
 and-false true = refl

@@ -3,7 +3,6 @@ ghost use mathlib.Core.Bool.{true};
 ghost use mathlib.Core.Path.{_≡_};
 ghost use Prim.Native.Nat.{ℕ, _+_, _*_, _<_, _≤_};
 ghost use lib.ListN.{length, getD};
-ghost use Rattle.calendar.specs.Labels.{turnOf};
 ghost use Rattle.notification.specs.Forms.{places};
 ghost use Rattle.reader.specs.Walking.{sixAt, halfHours, Plain, LineSays};
 use crate::power::Power;
@@ -11,6 +10,7 @@ use crate::power::byte_at;
 use crate::power::power_at;
 use crate::power::power_of;
 use calendar::PLAIN_STEPS;
+use calendar::turn_of;
 
 // A byte as a wider number, with its bound for the caller.
 fn wide(b: u8) -> u64
@@ -19,19 +19,12 @@ fn wide(b: u8) -> u64
     b as u64
 }
 
-// The boundary between steps at which the day turns.
-fn turn(steps: u32) -> u32
-    ensures { λ r. ⌜ (r ≡ turnOf steps) × (4 ≤ r) × (r ≤ 7) ⌝ }
-{
-    if steps < PLAIN_STEPS { 4 } else { 7 }
-}
-
 // The half hours since midnight that a boundary is labelled with.
 pub(crate) fn half_hours(steps: u32, at: u32) -> u32
     requires { ⌜ (at ≤ steps) × (steps ≤ places) ⌝ }
     ensures { λ r. ⌜ (r ≡ halfHours steps at) × (r < 49) ⌝ }
 {
-    if at < turn(steps) {
+    if at < turn_of(steps) {
         at
     } else {
         at + PLAIN_STEPS - steps
@@ -43,7 +36,7 @@ pub(crate) fn run_end(steps: u32, k: u32) -> u32
     requires { ⌜ (k ≤ steps) × (steps ≤ places) ⌝ }
     ensures { λ r. ⌜ (k < r → Plain steps k r) ⌝ }
 {
-    let t = turn(steps);
+    let t = turn_of(steps);
     let j = half_hours(steps, k);
     if t <= k {
         if j < t {

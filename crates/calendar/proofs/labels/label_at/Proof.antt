@@ -4,8 +4,8 @@ use Rattle.calendar.proofs.AnyDay.{label-again, label-once}
 use Rattle.calendar.proofs.labels.label_at.Statement.{statement}
 use Rattle.calendar.proofs.labels.label_at.Tie as tie
 
-turn-requires : tie.Need-turn-requires
-turn-requires c κs = search needs
+turn-of-requires : tie.Need-turn-of-requires
+turn-of-requires c κs = search needs
 
 minute-at-requires : tie.Need-minute-at-requires
 minute-at-requires c κs = search needs
@@ -35,7 +35,7 @@ pub label-at-spec : {M : Type 1} → statement M
 label-at-spec =
     tie.close
     (tie.spec
-    turn-requires
+    turn-of-requires
     minute-at-requires
     digit-requires
     digit-requires-2

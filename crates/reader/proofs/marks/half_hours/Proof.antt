@@ -5,8 +5,8 @@ use Rattle.reader.proofs.Marking.{half-before, half-after}
 use Rattle.reader.proofs.marks.half_hours.Statement.{statement}
 use Rattle.reader.proofs.marks.half_hours.Tie as tie
 
-turn-requires : tie.Need-turn-requires
-turn-requires c κs = search needs
+turn-of-requires : tie.Need-turn-of-requires
+turn-of-requires c κs = search needs
 
 add-result : tie.Need-add-result
 add-result c = search needs
@@ -15,10 +15,10 @@ sub-result : tie.Need-sub-result
 sub-result c = search needs
 
 returns : tie.Need-returns
-returns c = (half-before (c .before .before .args .steps) (c .before .before .args .at) _ (c .before .turn .ensures .0) (c .if1 .taken), omega arith)
+returns c = (half-before (c .before .before .args .steps) (c .before .before .args .at) _ (c .before .turn-of .ensures .0) (c .if1 .taken), omega arith)
 
 returns-2 : tie.Need-returns-2
-returns-2 c = (half-after (c .before .before .args .steps) (c .before .before .args .at) _ (c .before .turn .ensures .0) (c .if1 .left), omega arith)
+returns-2 c = (half-after (c .before .before .args .steps) (c .before .before .args .at) _ (c .before .turn-of .ensures .0) (c .if1 .left), omega arith)
 
 pub half-hours-spec : {M : Type 1} → statement M
-half-hours-spec = tie.close (tie.spec turn-requires add-result sub-result returns returns-2)
+half-hours-spec = tie.close (tie.spec turn-of-requires add-result sub-result returns returns-2)
