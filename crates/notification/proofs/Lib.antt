@@ -14,3 +14,4 @@ pub mod TwoWays
 pub mod Buffers
 pub mod Tested
 pub mod Orders
+pub mod Stored

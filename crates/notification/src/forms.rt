@@ -1,9 +1,9 @@
-// The forms of codes and categories (document 01, "The ledger").
+// The forms of codes and categories (document 01, "The ledger"), and the bytes in which they are kept.
 ghost use mathlib.Core.Path.{_≡_};
-ghost use Prim.Native.Nat.{_<_, _≤_};
+ghost use Prim.Native.Nat.{_≤_};
 ghost use lib.ListN.{length, take};
 ghost use Rattle.lists.specs.Searches.{every};
-ghost use Rattle.notification.specs.Forms.{isDigit, isCodeByte, isCode, isCategory};
+ghost use Rattle.notification.specs.Forms.{isDigit, isCodeByte, isCode, isCategory, sixBytes};
 
 // Whether a byte is a digit.
 pub fn is_digit(b: u8) -> bool
@@ -54,4 +54,29 @@ pub fn is_category(s: &[u8]) -> bool
         return five_digits(s) & (s[5] == b'C');
     }
     false
+}
+
+// A code's sixteen bytes. Its length is asked for: who keeps a code has tested its form.
+pub fn sixteen(s: &[u8]) -> [u8; 16]
+    requires { ⌜ length (now s) ≡ 16 ⌝ }
+    ensures { λ r. ⌜ r ≡ now (s .entry) ⌝ }
+{
+    let mut code = [0u8; 16];
+    let mut i: usize = 0;
+    while i < 16 {
+        code[i] = s[i];
+        i += 1;
+    }
+    code
+}
+
+// A category's six bytes: 0 stands last where it has no C. Here too its form has been tested.
+pub fn six(s: &[u8]) -> [u8; 6]
+    requires { ⌜ 5 ≤ length (now s) ⌝ }
+    ensures { λ r. ⌜ r ≡ sixBytes (now (s .entry)) ⌝ }
+{
+    if s.len() == 5 {
+        return [s[0], s[1], s[2], s[3], s[4], 0];
+    }
+    [s[0], s[1], s[2], s[3], s[4], s[5]]
 }

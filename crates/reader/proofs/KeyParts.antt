@@ -1,40 +1,27 @@
 -- A text is a key's exactly where each of its parts is valid and stands in its place.
 use mathlib.Core.Path.{_≡_, refl, sym, ap, _∙_}
-use mathlib.Core.Bool.{Bool, true, false, not, _&&_, _||_}
-use mathlib.Core.List.{List, [], _∷_, _++_}
+use mathlib.Core.Bool.{Bool, true, false, not, _&&_}
+use mathlib.Core.List.{List, _∷_, _++_}
 use Prim.Native.Nat.{ℕ, _+_, _-_, _<_, _≤_}
 use native.Mathlib.Omega.{arith}
 use lib.Dec.{ltb, eqb}
-use lib.ListN.{length, getD, take, drop, length-append, length-drop}
-use lib.Seq.{take-at, take-all, split-at, drop-drop, getD-drop, getD-at}
+use lib.ListN.{length, getD, take, drop, length-drop}
+use lib.Seq.{split-at, drop-drop, getD-drop, getD-at}
 use borrow.Author.Tests.{eqb-true, eq-eqb, ltb-true, lt-ltb, not-true, not-false}
-use Rattle.lists.specs.Searches.{every, same}
-use Rattle.lists.proofs.Tests.{by-test, true-false, and-left, and-right, and-true, or-cases}
+use Rattle.lists.specs.Searches.{same}
+use Rattle.lists.proofs.Tests.{by-test, true-false, and-left, and-right, and-true}
 use Rattle.lists.proofs.Searches.{same-refl, same-true}
 use Rattle.lists.proofs.Parts.{drop-past}
 use Rattle.calendar.specs.Texts.{textOf, dayOf}
 use Rattle.calendar.specs.declared.texts.Day.{Day}
 use Rattle.calendar.specs.declared.texts.Day.the-variants.{Number, NoDay}
 use Rattle.calendar.proofs.TwoWays.{read-text}
-use Rattle.notification.specs.Forms.{isDigit, isCode, isCategory, sixBytes, categoryText}
+use Rattle.notification.specs.Forms.{isCode, isCategory, sixBytes, categoryText}
 use Rattle.notification.specs.Writing.{keyText, formed}
 use Rattle.notification.specs.Reading.{dayNumber, keyIn, validKey}
 use Rattle.reader.specs.Parts.{noKey, found, isKey, keyRead}
 use Rattle.notification.proofs.Lengths.{date-length, formed-parts, key-length}
-
--- ---- a category and its six bytes
-
-pub category-six : (c : List ℕ) → isCategory c ≡ true → categoryText (sixBytes c) ≡ c
-unfolding isCategory categoryText
-category-six c e =
-    let b = eqb (length c) 6 && eqb (getD c 5 0) 67 in
-    or-cases (eqb (length c) 5) b (and-right (every isDigit (take 5 c)) (eqb (length c) 5 || b) e)
-    (λ a. let n = eqb-true (length c) 5 a in
-    let l : length (c ++ 0 ∷ []) ≤ 6 = simp length-append (omega arith) in
-    rw (take-all 6 (c ++ 0 ∷ []) l, getD-at c 0 [] 0 5 n) (take-at c (0 ∷ []) 5 n))
-    (λ a. let n = eqb-true (length c) 6 (and-left (eqb (length c) 6) (eqb (getD c 5 0) 67) a) in
-    let m = eqb-true (getD c 5 0) 67 (and-right (eqb (length c) 6) (eqb (getD c 5 0) 67) a) in
-    rw (take-at c (0 ∷ []) 6 n, m))
+use Rattle.notification.proofs.Stored.{six-back}
 
 -- ---- a date that was read
 
@@ -63,7 +50,7 @@ module _ (by : ℕ) (s : List ℕ) where
       let a = drop 17 s in
       let d = drop 34 s in
       let t = day-text (take 8 d) (dayOf (take 8 d)) refl (p .a-day) in
-      let c = category-six (drop 43 s) (p .a-category) in
+      let c = six-back (drop 43 s) (p .a-category) in
       let la : 16 < length a = rw length-drop (omega arith) in
       let ld : 8 < length d = rw length-drop (omega arith) in
       let e1 : s ≡ take 16 s ++ by ∷ a = rw (p .first-parted) at (split-at s 16 0 (omega arith)) in
@@ -76,7 +63,7 @@ module _ (by : ℕ) (s : List ℕ) where
 
   parts-formed : Parts by s → formed (keyIn s) ≡ true
   unfolding keyIn formed
-  parts-formed p = rw (p .a-ceder, p .an-acquirer, category-six (drop 43 s) (p .a-category)) (p .a-category)
+  parts-formed p = rw (p .a-ceder, p .an-acquirer, six-back (drop 43 s) (p .a-category)) (p .a-category)
 
   pub parts-key : Parts by s → isKey by s ≡ true
   unfolding isKey keyIn

@@ -5,7 +5,6 @@ pub mod Judging
 pub mod Taking
 pub mod Ends
 pub mod Tallies
-pub mod Sixes
 pub mod KeyParts
 pub mod Frames
 pub mod Headers

@@ -2,15 +2,15 @@
 ghost use mathlib.Core.Path.{_≡_};
 ghost use Prim.Native.Nat.{_+_, _≤_};
 ghost use lib.ListN.{length};
-ghost use Rattle.notification.specs.Forms.{sixBytes};
 ghost use Rattle.notification.specs.Reading.{isHeader};
 ghost use Rattle.reader.specs.Parts.{noKey, keyRead, marked, nameRead};
-use crate::power::byte_at;
 use calendar::Day;
 use calendar::day_of;
 use notification::Key;
 use notification::forms::is_category;
 use notification::forms::is_code;
+use notification::forms::six;
+use notification::forms::sixteen;
 
 // Whether a text is a key's, and the key.
 pub struct KeyRead {
@@ -30,29 +30,6 @@ pub(crate) fn no_key() -> KeyRead
             day: 0,
         },
     }
-}
-
-// A code's sixteen bytes.
-fn sixteen(s: &[u8]) -> [u8; 16]
-    requires { ⌜ length (now s) ≡ 16 ⌝ }
-    ensures { λ r. ⌜ r ≡ now (s .entry) ⌝ }
-{
-    let mut code = [0u8; 16];
-    let mut i: usize = 0;
-    while i < 16 {
-        code[i] = s[i];
-        i += 1;
-    }
-    code
-}
-
-// A category's six bytes: 0 stands last where it has no C.
-fn six(s: &[u8]) -> [u8; 6]
-    requires { ⌜ 5 ≤ length (now s) ⌝ }
-    ensures { λ r. ⌜ r ≡ sixBytes (now (s .entry)) ⌝ }
-{
-    let last = byte_at(s, 5);
-    [s[0], s[1], s[2], s[3], s[4], last]
 }
 
 // The key in `ceder.acquirer.date.category`, parted by a byte, where each part is valid.

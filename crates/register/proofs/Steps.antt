@@ -1,23 +1,23 @@
 -- From a call's verdict to the ledger's step, and what the head that an accepted call leaves holds.
-use mathlib.Core.Path.{_≡_, refl, sym, _∙_, ap, ap₂}
-use mathlib.Core.Bool.{true, false, _&&_, _||_}
-use mathlib.Core.Logic.{⊎-elim}
-use mathlib.Core.List.{List, [], _∷_, _++_}
+use mathlib.Core.Path.{_≡_, refl, sym, _∙_, ap₂}
+use mathlib.Core.Bool.{true, _&&_}
+use mathlib.Core.List.{List}
 use Prim.Native.Nat.{ℕ, suc, _+_, _/_, _%_, _≤_, _<_}
 use native.Mathlib.Omega.{arith}
 use lib.Dec.{eqb, leb}
-use lib.ListN.{length, getD, take, length-append}
-use lib.Seq.{take-all, take-append-le, take-at, getD-append-seam}
-use borrow.Author.Tests.{eqb-true, eq-eqb, ne-eqb, leb-true, le-leb}
+use lib.ListN.{length}
+use borrow.Author.Tests.{eqb-true, eq-eqb, leb-true, le-leb}
 use Rattle.lists.specs.Searches.{every}
-use Rattle.lists.proofs.Tests.{both-true, and-left, and-right}
+use Rattle.lists.proofs.Tests.{both-true, and-left}
 use Rattle.lists.proofs.Searches.{every-other}
 use Rattle.calendar.proofs.StepCounts.{steps-small}
 use Rattle.refusals.specs.Tests.{firstMet}
 use Rattle.refusals.specs.declared.Refusal.{Refusal}
 use Rattle.refusals.specs.declared.Verdict.{Verdict}
 use Rattle.refusals.specs.declared.Verdict.the-variants.{Pass, No}
-use Rattle.notification.specs.Forms.{isDigit, isCodeByte, isCode, isCategory, sixBytes, categoryText, inPlaces}
+use Rattle.notification.specs.Forms.{isCodeByte, isCode, isCategory, sixBytes, inPlaces}
+use Rattle.notification.proofs.Lengths.{category-length}
+use Rattle.notification.proofs.Stored.{six-back}
 use Rattle.ledger.specs.Call.{Call, enrolActor, enrolCategory, load}
 use Rattle.ledger.specs.Ledger.{actorAt, categoryAt}
 use Rattle.ledger.specs.Calls.{step, verdictOf, effect, actorTests, categoryTests, loadTests}
@@ -30,7 +30,6 @@ use Rattle.tables.specs.declared.actors.Actors.{Actors}
 use Rattle.tables.specs.declared.categories.Categories.{Categories}
 use Rattle.tables.proofs.Entries.{actor-more, category-more}
 use Rattle.tables.proofs.LoadTable.{number-parts, loads-length, one-more}
-use Rattle.tables.proofs.Texts.{category-length, text-short, text-long}
 use Rattle.register.specs.View.{Register, lent, view, held}
 use Rattle.register.specs.Written.{withActors, withCategories, withLoads, writes, leaves, does, seen}
 use Rattle.register.specs.declared.Head.{Head}
@@ -71,44 +70,24 @@ module _ (h : Head) (cols : Columns) (loads : LoadColumns) (code : List ℕ) (fi
 
 -- ---- one category more
 
--- six bytes of a category stand for its text
-six-back : (s : List ℕ) → isCategory s ≡ true → categoryText (sixBytes s) ≡ s
-unfolding isCategory
-six-back s c = ⊎-elim five six (category-length s c)
-  where
-    five : length s ≡ 5 → categoryText (sixBytes s) ≡ s
-    five n =
-        let b : sixBytes s ≡ s ++ 0 ∷ [] = take-all 6 (s ++ 0 ∷ []) (omega (arith, length-append s (0 ∷ []))) in
-        let g : getD (s ++ 0 ∷ []) 5 0 ≡ 0 = ap (λ k. getD (s ++ 0 ∷ []) k 0) (sym n) ∙ getD-append-seam s 0 [] 0 in
-        ap categoryText b ∙ sym (text-short (s ++ 0 ∷ []) g) ∙ take-at s (0 ∷ []) 5 n
-
-    six : length s ≡ 6 → categoryText (sixBytes s) ≡ s
-    six n =
-        let b : sixBytes s ≡ s = take-append-le 6 s (0 ∷ []) (omega arith) ∙ take-all 6 s (omega arith) in
-        let f : eqb (length s) 5 ≡ false = ne-eqb (length s) 5 (λ q. omega arith) in
-        let t = and-right (every isDigit (take 5 s)) (eqb (length s) 5 || eqb (length s) 6 && eqb (getD s 5 0) 67) c in
-        let u : (eqb (length s) 6 && eqb (getD s 5 0) 67) ≡ true = rw f at t in
-        let g : getD s 5 0 ≡ 67 = eqb-true (getD s 5 0) 67 (and-right (eqb (length s) 6) (eqb (getD s 5 0) 67) u) in
-        ap categoryText b ∙ sym (text-long s (λ q. omega arith))
-
 module _ (h : Head) (cols : Columns) (loads : LoadColumns) (text : List ℕ) (l : length (h .categories .entries) ≡ 4)
     (p : firstMet (categoryTests (view h cols loads) text) ≡ Pass) where
-  pub category-room : (isCategory text ≡ true) × (h .categories .count < 4)
+  pub category-room : (isCategory text ≡ true) × (5 ≤ length text) × (h .categories .count < 4)
   unfolding view
   category-room =
       let ok = category-ok (view h cols loads) text p in
       let r : length (categoriesIn (h .categories)) < 4 = ok .room in
-      (ok .form, omega (arith, categories-many (h .categories) l))
+      (ok .form, category-length text (ok .form) .0, omega (arith, categories-many (h .categories) l))
 
   pub category-done : (stored : List ℕ) (x : Categories) → stored ≡ sixBytes text → x ≡ moreCategories (h .categories) (record { text = stored }) →
       seen (lent (withCategories h x) cols loads) (Held (x .count)) ≡ does (lent h cols loads) (enrolCategory text)
   unfolding verdictOf view effect writes
   category-done stored x es ex =
       let room = category-room in
-      let n : h .categories .count + 1 ≡ suc (length (categoriesIn (h .categories))) = omega (arith, room .1, categories-many (h .categories) l) in
+      let n : h .categories .count + 1 ≡ suc (length (categoriesIn (h .categories))) = omega (arith, room .2, categories-many (h .categories) l) in
       rw (ex, es)
       (does-passed (lent h cols loads) _ (enrolCategory text) _ Pass (sym p) refl refl
-      (rw (category-more (h .categories) (record { text = sixBytes text }) l (room .1), six-back text (room .0), n)))
+      (rw (category-more (h .categories) (record { text = sixBytes text }) l (room .2), six-back text (room .0), n)))
 
 -- ---- one load more
 

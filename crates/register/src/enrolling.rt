@@ -17,6 +17,8 @@ use ledger::Actor;
 use ledger::Answer;
 use notification::forms::is_category;
 use notification::forms::is_code;
+use notification::forms::six;
+use notification::forms::sixteen;
 use refusals::InputRefusal;
 use refusals::Refusal;
 use refusals::StateRefusal;
@@ -26,11 +28,9 @@ use refusals::trying::try_state;
 use tables::actors::ACTORS;
 use tables::actors::Actors;
 use tables::actors::least;
-use tables::actors::sixteen;
 use tables::categories::CATEGORIES;
 use tables::categories::Categories;
 use tables::categories::Category;
-use tables::categories::six;
 
 impl Head {
     // A register that holds nothing, with its clock at day 0, minute 0.

@@ -1,20 +1,17 @@
 -- What comparing and copying the bytes of codes and categories comes to.
-use mathlib.Core.Path.{_≡_, sym, ap, _∙_}
+use mathlib.Core.Path.{_≡_, sym, ap}
 use mathlib.Core.Bool.{Bool, true, false, _&&_}
-use mathlib.Core.Logic.{_⊎_, inl, inr, ⊎-elim}
-use mathlib.Core.List.{List, [], _∷_, _++_, append-nil}
+use mathlib.Core.List.{List}
 use Prim.Native.Nat.{ℕ, _+_, _≤_, _<_}
-use native.Mathlib.Nat.{zero-add}
 use native.Mathlib.Numerals.{add-one}
 use native.Mathlib.Omega.{arith}
 use lib.Dec.{eqb}
-use lib.ListN.{length, getD, take, drop, set, replicate, length-append}
-use lib.Seq.{take-all, take-suc, take-suc-set, take-append-le, length-take-le, paste-suc}
-use borrow.Author.Tests.{eq-eqb, ne-eqb, eqb-true}
-use Rattle.lists.specs.Searches.{same, every}
-use Rattle.lists.proofs.Tests.{by-test, true-false, and-right}
+use lib.ListN.{length, getD, take}
+use lib.Seq.{take-all, length-take-le}
+use borrow.Author.Tests.{eq-eqb, ne-eqb}
+use Rattle.lists.specs.Searches.{same}
 use Rattle.lists.proofs.Places.{same-none, same-more}
-use Rattle.notification.specs.Forms.{isDigit, isCategory, sixBytes, categoryText}
+use Rattle.notification.specs.Forms.{categoryText}
 use Rattle.notification.proofs.Tested.{and-assoc}
 
 -- ---- codes
@@ -35,13 +32,6 @@ code-all a s i good n m h e =
     let k = take-all i a (omega arith) in
     let l = take-all i s (omega arith) in
     rw (k, l) at e
-
-pub copied-more : (xs s : List ℕ) (i : ℕ) → i < length xs → i < length s → take i xs ≡ take i s →
-    take (i + 1) (set xs i (getD s i 0)) ≡ take (i + 1) s
-copied-more xs s i h k e = rw (add-one i, take-suc-set xs i (getD s i 0) h, take-suc s i 0 k, e)
-
-pub copied-all : (xs s : List ℕ) (i : ℕ) → length xs ≤ i → length s ≤ i → take i xs ≡ take i s → xs ≡ s
-copied-all xs s i h k e = rw (take-all i xs h, take-all i s k) at e
 
 -- ---- categories
 
@@ -83,19 +73,6 @@ module _ (c s : List ℕ) (n : length c ≡ 6) where
       let m5 = same-more c s 5 (omega arith) (omega arith) in
       rw (e, ← t, m5, m4, m3, m2, m1, m0) (sym (simp and-assoc))
 
--- a category has five bytes or six
-pub category-length : (s : List ℕ) → isCategory s ≡ true → (length s ≡ 5) ⊎ (length s ≡ 6)
-unfolding isCategory
-category-length s e =
-    by-test (eqb (length s) 5)
-    (λ f. inl (eqb-true (length s) 5 f))
-    (λ f. by-test (eqb (length s) 6)
-    (λ g. inr (eqb-true (length s) 6 g))
-    (λ g. true-false _ (and-right (every isDigit (take 5 s)) _ e) (rw (f, g))))
-
-pub category-most : (s : List ℕ) → isCategory s ≡ true → length s ≤ 6
-category-most s e = ⊎-elim (λ n. omega arith) (λ n. omega arith) (category-length s e)
-
 -- the text of a category in six bytes that has no C, and of one that has
 pub text-short : (c : List ℕ) → getD c 5 0 ≡ 0 → take 5 c ≡ categoryText c
 unfolding categoryText
@@ -104,24 +81,3 @@ text-short c e = rw (eq-eqb (getD c 5 0) 0 e)
 pub text-long : (c : List ℕ) → (getD c 5 0 ≡ 0 → ⊥) → c ≡ categoryText c
 unfolding categoryText
 text-long c e = rw (ne-eqb (getD c 5 0) 0 e)
-
--- in six bytes: the text, and the zeros that were there
-pub six-more : (d s text : List ℕ) (i : ℕ) → i < length d → i < length s → text ≡ take i s ++ drop i d →
-    set text i (getD s i 0) ≡ take (i + 1) s ++ drop (i + 1) d
-six-more d s text i h k e = rw (e, add-one i) (simp zero-add at (paste-suc d 0 s i 0 (omega arith) k))
-
-pub six-all : (s text : List ℕ) (i : ℕ) → isCategory s ≡ true → i ≡ length s → text ≡ take i s ++ drop i (replicate 6 0) → text ≡ sixBytes s
-six-all s text i c e t = ⊎-elim five six (category-length s c)
-  where
-    five : length s ≡ 5 → text ≡ sixBytes s
-    five n =
-        let k : i ≡ 5 = omega arith in
-        let a : take 5 s ≡ s = take-all 5 s (omega arith) in
-        let b : take 6 (s ++ 0 ∷ []) ≡ s ++ 0 ∷ [] = take-all 6 (s ++ 0 ∷ []) (omega (arith, length-append s (0 ∷ []))) in
-        t ∙ rw (k, a, b)
-
-    six : length s ≡ 6 → text ≡ sixBytes s
-    six n =
-        let k : i ≡ 6 = omega arith in
-        let b : take 6 (s ++ 0 ∷ []) ≡ take 6 s = take-append-le 6 s (0 ∷ []) (omega arith) in
-        t ∙ rw (k, b) (append-nil (take 6 s))

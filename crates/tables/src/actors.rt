@@ -2,7 +2,6 @@
 ghost use mathlib.Core.Path.{_≡_};
 ghost use mathlib.Core.List.{_++_, _∷_, []};
 ghost use Prim.Native.Nat.{_<_, min};
-ghost use lib.ListN.{length};
 ghost use Rattle.lists.specs.Searches.{same};
 ghost use Rattle.ledger.specs.Ledger.{actorAt};
 ghost use Rattle.tables.specs.More.{moreActors};
@@ -72,18 +71,4 @@ impl Actors {
         next.count = at + 1;
         next
     }
-}
-
-// Sixteen bytes of a text.
-pub fn sixteen(s: &[u8]) -> [u8; 16]
-    requires { ⌜ length (now s) ≡ 16 ⌝ }
-    ensures { λ r. ⌜ r ≡ now (s .entry) ⌝ }
-{
-    let mut code = [0u8; 16];
-    let mut i: usize = 0;
-    while i < 16 {
-        code[i] = s[i];
-        i += 1;
-    }
-    code
 }

@@ -1,10 +1,9 @@
 // The enrolled categories, in the order of their enrolment.
 ghost use mathlib.Core.Path.{_≡_};
-ghost use mathlib.Core.Bool.{true};
 ghost use mathlib.Core.List.{_++_, _∷_, []};
 ghost use Prim.Native.Nat.{_<_};
 ghost use Rattle.lists.specs.Searches.{same};
-ghost use Rattle.notification.specs.Forms.{isCategory, sixBytes, categoryText};
+ghost use Rattle.notification.specs.Forms.{categoryText};
 ghost use Rattle.ledger.specs.Ledger.{categoryAt};
 ghost use Rattle.tables.specs.More.{moreCategories};
 ghost use Rattle.tables.specs.Tables.{categoriesIn};
@@ -86,18 +85,4 @@ impl Categories {
         next.count = at + 1;
         next
     }
-}
-
-// A category's text in six bytes.
-pub fn six(s: &[u8]) -> [u8; 6]
-    requires { ⌜ isCategory (now s) ≡ true ⌝ }
-    ensures { λ r. ⌜ r ≡ sixBytes (now (s .entry)) ⌝ }
-{
-    let mut text = [0u8; 6];
-    let mut i: usize = 0;
-    while i < s.len() {
-        text[i] = s[i];
-        i += 1;
-    }
-    text
 }

@@ -1,8 +1,7 @@
 -- `Head::enrol_category` meets its contract: the verdict decides, and the head has one category more.
-use mathlib.Core.Path.{_≡_, sym, _∙_, ap}
-use mathlib.Core.Bool.{true}
-use Prim.Native.Nat.{_<_}
-use Rattle.notification.specs.Forms.{isCategory}
+use mathlib.Core.Path.{sym, _∙_, ap}
+use Prim.Native.Nat.{_<_, _≤_}
+use lib.ListN.{length}
 use Rattle.ledger.specs.Call.{enrolCategory}
 use Rattle.ledger.specs.Calls.{verdictOf}
 use Rattle.tables.proofs.Entries.{categories-length}
@@ -15,15 +14,16 @@ use borrow.Author.Needs.{needs}
 use Rattle.register.proofs.Head.enrol_category.Statement.{statement}
 use Rattle.register.proofs.Head.enrol_category.Tie as tie
 
--- an accepted category has its form, and a place
+-- an accepted category has five bytes or six, and a place
 room : (c : tie.After-enum-told) →
-    let a = c .before .before .before .before .args in (isCategory (a .text .now) ≡ true) × (a .self .categories .count < 4)
+    let a = c .before .before .before .before .args in (5 ≤ length (a .text .now)) × (a .self .categories .count < 4)
 room c =
     let v = c .before .before in
     let b = v .before .before in
     let a = b .args in
     let l = categories-length (a .self .categories) _ (b .good .0 .1 .1 .1 .1 .0) in
-    category-room (a .self) noColumns noLoads (a .text .now) l (sym (v .category-verdict .ensures noColumns noLoads) ∙ c .enum-told .given .1)
+    let k = category-room (a .self) noColumns noLoads (a .text .now) l (sym (v .category-verdict .ensures noColumns noLoads) ∙ c .enum-told .given .1) in
+    (k .1, k .2)
 
 category-verdict-requires : tie.Need-category-verdict-requires
 category-verdict-requires c κs = search needs

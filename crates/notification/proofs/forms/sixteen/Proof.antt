@@ -1,12 +1,12 @@
--- `actors::sixteen` meets its contract: the bytes passed are those of the text.
+-- `forms::sixteen` meets its contract: as long as the loop runs, the bytes passed are copied.
 use borrow.Author.Needs.{needs}
-use mathlib.Core.Path.{_≡_, refl, _∙_}
-use Prim.Native.Nat.{_≤_, _-_}
+use mathlib.Core.Path.{_≡_, refl}
+use Prim.Native.Nat.{_-_, _≤_}
 use native.Mathlib.Omega.{arith}
 use lib.ListN.{length, take, length-set}
-use Rattle.tables.proofs.Texts.{copied-more, copied-all}
-use Rattle.tables.proofs.actors.sixteen.Statement.{statement}
-use Rattle.tables.proofs.actors.sixteen.Tie as tie
+use Rattle.notification.proofs.Stored.{copied-more, copied-all}
+use Rattle.notification.proofs.forms.sixteen.Statement.{statement}
+use Rattle.notification.proofs.forms.sixteen.Tie as tie
 
 abbrev Inv-loop : tie.InvT-loop
 Inv-loop s code₀ i₀ code i = (i ≤ 16) × (length code ≡ 16) × (take i code ≡ take i s)
@@ -32,14 +32,13 @@ loop-less c = search needs
 loop-again : tie.Need-loop-again Inv-loop μ-loop
 loop-again c =
     let l = c .before .before .loop in
-    let n = l .inv .1 in
-    let m = c .before .before .before .pre in
-    (omega arith, length-set (l .code) _ _ ∙ n, copied-more (l .code) _ (l .i) (omega arith) (omega arith) (l .inv .2))
+    let s = c .before .before .before .args .s .now in
+    (omega arith, simp length-set (l .inv .1), copied-more (l .code) s (l .i) (omega arith) (omega arith) (l .inv .2))
 
 returns : tie.Need-returns Inv-loop μ-loop
 returns c =
     let l = c .before .loop in
-    copied-all (l .code) _ (l .i) (omega arith) (omega arith) (l .inv .2)
+    copied-all (l .code) (c .before .before .args .s .now) (l .i) 16 (c .loop-test .left) (l .inv .1) (c .before .before .pre) (l .inv .2)
 
 pub sixteen-spec : {M : Type 1} → statement M
 sixteen-spec =
