@@ -8,10 +8,10 @@ ghost use lib.ListN.{length, getD, replicate};
 ghost use lib.Dec.{leb, ltb};
 ghost use Rattle.tables.specs.Passing.{loadRow};
 ghost use Rattle.judging.specs.Nets.{base, Between, Moved, Applied, Based};
+use lists::numbers::byte;
+use lists::numbers::wide;
 use tables::loads::Found;
 use tables::loads::LOADS;
-use tables::records::byte;
-use tables::records::wide;
 
 // More than all records can take away.
 pub const BASE: u32 = 16777216;

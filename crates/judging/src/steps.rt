@@ -10,11 +10,11 @@ ghost use Rattle.judging.specs.Nets.{most};
 ghost use Rattle.judging.specs.Steps.{belowAt, stepFits, netTests};
 use crate::nets::BASE;
 use crate::nets::Nets;
+use lists::numbers::wide;
 use refusals::StateRefusal;
 use refusals::Verdict;
 use refusals::trying::try_at;
 use std::num::wrapping_sub_u32;
-use tables::records::wide;
 
 // The first of the steps from `first` to before `until` at which one number is below another; `until` where there is none.
 fn first_below(left: [u32; 50], right: [u32; 50], first: u32, until: u32) -> u32

@@ -8,10 +8,12 @@ use native.Mathlib.Omega.{arith}
 use lib.Dec.{ltb, eqb}
 use lib.ListN.{length, getD, take, drop, length-take, length-drop, take-append-drop, drop-of-length-le}
 use lib.Seq.{take-suc, drop-cons, drop-drop, getD-drop, take-all}
-use borrow.Author.Tests.{not-true, ne-eqb, lt-ltb, ltb-false}
-use Rattle.lists.specs.Searches.{every}
+use borrow.Author.Tests.{not-true, eqb-true, ne-eqb, lt-ltb, ltb-false}
+use Rattle.lists.specs.Searches.{every, placeOf, isByte, byteFrom}
 use Rattle.lists.proofs.Tests.{by-test, and-left, and-right, and-true}
 use Rattle.lists.proofs.Searches.{every-append}
+use Rattle.lists.proofs.Places.{place-passes}
+use Rattle.lists.proofs.ByteSearch.{byte-inside}
 use Rattle.notification.specs.Reading.{linesIn}
 use Rattle.reader.specs.Walking.{LineEnd, wholeTo}
 use Rattle.reader.specs.Folding.{Taken, takeStep, takeSteps}
@@ -97,6 +99,28 @@ more-in s from i a h f e =
 
 pub none-in : (s : List ℕ) (from : ℕ) → every inLine (take (from - from) (drop from s)) ≡ true
 none-in s from = let n : from - from ≡ 0 = omega arith in rw n
+
+-- the line that begins at a place ends at the first LF from there on
+before-break : (s : List ℕ) → every inLine (take (placeOf (isByte 10) s) s) ≡ true
+unfolding placeOf
+before-break [] = refl
+before-break (b ∷ s) = by-test (eqb b 10) (λ t. rw t) (λ t. rw t (and-true (inLine b) (every inLine (take (placeOf (isByte 10) s) s)) (rw t) (before-break s)))
+
+pub line-ends : (s : List ℕ) {from r : ℕ} → from ≤ length s → r ≡ byteFrom 10 s from → LineEnd s from r
+unfolding byteFrom
+line-ends s {from} {r} h e =
+    let n = placeOf (isByte 10) (drop from s) in
+    let m : r - from ≡ n = omega (arith, e) in
+    record {
+      after = omega (arith, e);
+      within = rw e (byte-inside 10 s from h);
+      no-break = rw m (before-break (drop from s));
+      a-break =
+          λ l.
+          let k : n < length (drop from s) = rw length-drop (omega (arith, e)) in
+          let b = eqb-true (getD (drop from s) n 0) 10 (place-passes (isByte 10) (drop from s) 0 k) in
+          ap (λ (i : ℕ). getD s i 0) e ∙ (sym (getD-drop from s n 0) ∙ b);
+    }
 
 -- ---- the last LF from a place on, searched from the end
 

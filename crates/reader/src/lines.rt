@@ -10,10 +10,10 @@ ghost use Rattle.reader.specs.Walking.{wholeTo};
 ghost use Rattle.reader.specs.Folding.{withPowers, takeLines, HeaderOn};
 use crate::header::is_headed;
 use crate::header::other_header;
-use crate::steps::line_end;
 use crate::steps::take_steps;
 use crate::tally::Tally;
 use crate::tally::is_pass;
+use lists::bytes::byte_from;
 use refusals::Verdict;
 
 // What a file's lines so far have shown: whether there was a header, what it is refused by, and the steps.
@@ -70,7 +70,7 @@ fn take_header(t: FileTally, parts: &[u8], body: &[u8], from: usize) -> FileRun
             at: from + parts.len() + 2,
         };
     }
-    let end = line_end(body, from);
+    let end = byte_from(body, from, b'\n');
     if body.len() <= end {
         return FileRun { tally: t, at: from };
     }

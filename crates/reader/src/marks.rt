@@ -11,13 +11,7 @@ use crate::power::power_at;
 use crate::power::power_of;
 use calendar::PLAIN_STEPS;
 use calendar::turn_of;
-
-// A byte as a wider number, with its bound for the caller.
-fn wide(b: u8) -> u64
-    ensures { λ r. ⌜ (r ≡ b) × (r < 256) ⌝ }
-{
-    b as u64
-}
+use lists::numbers::byte;
 
 // The half hours since midnight that a boundary is labelled with.
 pub(crate) fn half_hours(steps: u32, at: u32) -> u32
@@ -61,7 +55,8 @@ fn four(s: &[u8], a: usize) -> u64
     ensures { λ r. ⌜ r < 4294967296 ⌝ }
     ensures { λ r. ⌜ ((i : ℕ) → getD (now (s .entry)) i 0 < 256) ⌝ }
 {
-    wide(s[a]) + wide(s[a + 1]) * 256 + wide(s[a + 2]) * 65536 + wide(s[a + 3]) * 16777216
+    let low = byte(s[a]) + byte(s[a + 1]) * 256;
+    (low + byte(s[a + 2]) * 65536 + byte(s[a + 3]) * 16777216) as u64
 }
 
 // Whether the same twelve bytes stand at a place of each text.

@@ -6,7 +6,7 @@ ghost use Prim.Native.Nat.{_+_, _-_, _<_, _≤_};
 ghost use lib.Dec.{eqb};
 ghost use lib.ListN.{length, drop, take};
 ghost use Rattle.notification.specs.Forms.{places};
-ghost use Rattle.reader.specs.Walking.{startsWith, linePower, wholeTo, LineEnd};
+ghost use Rattle.reader.specs.Walking.{startsWith, linePower, wholeTo};
 ghost use Rattle.reader.specs.Folding.{takeStep, takeSteps, RunOn};
 ghost use Rattle.notification.specs.Reading.{linesIn};
 use crate::marks::good_line;
@@ -20,6 +20,7 @@ use crate::tally::count;
 use crate::tally::is_over;
 use crate::tally::note;
 use calendar::labels_of;
+use lists::bytes::byte_from;
 
 // The line of the first step: the header is line 1.
 const FIRST_LINE: u32 = 2;
@@ -84,21 +85,6 @@ fn take_step(t: Tally, steps: u32, line: &[u8], powers: &mut [u16; 50]) -> Tally
     }
     let said = line_power(steps, t.lines, line);
     note(t, FIRST_LINE, said, powers)
-}
-
-// Where the line that begins at a place ends: at the next LF, or at the end of the text.
-pub(crate) fn line_end(s: &[u8], from: usize) -> usize
-    requires { ⌜ from ≤ length (now s) ⌝ }
-    ensures { λ r. ⌜ LineEnd (now (s .entry)) from r ⌝ }
-{
-    let mut i = from;
-    while i < s.len() {
-        if s[i] == b'\n' {
-            return i;
-        }
-        i += 1;
-    }
-    i
 }
 
 // 1 where a power wasn't 0 before, so that the sum of the powers after it isn't 0 either.
@@ -177,7 +163,7 @@ pub(crate) fn take_steps(
     loop {
         let run = good_run(tally, steps, body, at, &mut *powers);
         let start = run.at;
-        let end = line_end(body, start);
+        let end = byte_from(body, start, b'\n');
         if body.len() <= end {
             return run;
         }

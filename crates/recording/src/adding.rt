@@ -7,11 +7,11 @@ ghost use Rattle.lists.specs.Sums.{sumTo};
 ghost use Rattle.ledger.specs.Ledger.{movedBy};
 ghost use Rattle.tables.specs.Tables.{columns, recordIn};
 ghost use Rattle.recording.specs.Recording.{gainedAt, givenAt};
+use lists::numbers::byte;
+use lists::numbers::wide;
 use tables::markets::next_of;
 use tables::records::UPDATED;
 use tables::records::VALIDATED;
-use tables::records::byte;
-use tables::records::wide;
 
 // What an actor acquires, and what it cedes.
 pub struct Totals {

@@ -12,13 +12,13 @@ ghost use Rattle.tables.specs.Passing.{isUnder, PlacesOf};
 ghost use Rattle.recording.specs.Recording.{ChangedAt, Changed};
 use crate::pairing::same_powers;
 use calendar::Clock;
+use lists::numbers::byte;
 use tables::records::ANSWERED;
 use tables::records::CREATED;
 use tables::records::DELETED;
 use tables::records::OBSOLETE;
 use tables::records::UPDATED;
 use tables::records::VALIDATED;
-use tables::records::byte;
 use tables::sizes::size_marks;
 use tables::sizes::size_u8;
 

@@ -6,8 +6,8 @@ ghost use Rattle.ledger.specs.Filing.{samePowers, answers};
 ghost use Rattle.tables.specs.Tables.{columns, keyFrom, recOf};
 ghost use Rattle.tables.specs.Passing.{isUnder, PlacesOf};
 ghost use Rattle.recording.specs.Recording.{pairsBelow};
+use lists::numbers::byte;
 use tables::records::CREATED;
-use tables::records::byte;
 
 // Whether two rows have the same power at every step. Each step is looked at, so that many are compared at once.
 pub(crate) fn same_powers(ps: [u16; 50], qs: [u16; 50]) -> bool

@@ -14,6 +14,9 @@ use calendar::steps_of;
 use ledger::Engaged;
 use ledger::Listed;
 use ledger::Shown;
+use lists::numbers::byte;
+use lists::numbers::least;
+use lists::numbers::wide;
 use notification::Key;
 use notification::Notification;
 use recording::adding::totals_of;
@@ -28,15 +31,12 @@ use refusals::trying::by_state;
 use refusals::trying::try_input;
 use refusals::trying::try_state;
 use tables::actors::ACTORS;
-use tables::actors::least;
 use tables::categories::CATEGORIES;
 use tables::loads::Found;
 use tables::loads::last_of;
 use tables::loads::load_number;
 use tables::loads::row_at;
 use tables::records::RECORDS;
-use tables::records::byte;
-use tables::records::wide;
 
 // What has been gained less what has been given, and 0 where that would be below 0.
 fn less(gained: u32, given: u32) -> u32

@@ -1,12 +1,13 @@
 // The enrolled actors, in the order of their enrolment.
 ghost use mathlib.Core.Path.{_≡_};
 ghost use mathlib.Core.List.{_++_, _∷_, []};
-ghost use Prim.Native.Nat.{_<_, min};
+ghost use Prim.Native.Nat.{_<_};
 ghost use Rattle.lists.specs.Searches.{same};
 ghost use Rattle.ledger.specs.Ledger.{actorAt};
 ghost use Rattle.tables.specs.More.{moreActors};
 ghost use Rattle.tables.specs.Tables.{actorsIn};
 use ledger::Actor;
+use lists::numbers::least;
 
 // The places for actors.
 pub const ACTORS: u32 = 8;
@@ -16,13 +17,6 @@ pub const ACTORS: u32 = 8;
 pub struct Actors {
     pub count: u32,
     pub entries: [Actor; 8],
-}
-
-// The lesser of two numbers.
-pub fn least(a: u32, b: u32) -> u32
-    ensures { λ r. ⌜ r ≡ min a b ⌝ }
-{
-    if a < b { a } else { b }
 }
 
 // Whether a code is this text. Each byte is looked at, so that many are compared at once.

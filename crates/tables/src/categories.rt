@@ -7,7 +7,7 @@ ghost use Rattle.notification.specs.Forms.{categoryText};
 ghost use Rattle.ledger.specs.Ledger.{categoryAt};
 ghost use Rattle.tables.specs.More.{moreCategories};
 ghost use Rattle.tables.specs.Tables.{categoriesIn};
-use crate::actors::least;
+use lists::numbers::least;
 
 // The places for categories.
 pub const CATEGORIES: u32 = 4;

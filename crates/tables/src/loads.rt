@@ -9,8 +9,8 @@ ghost use Rattle.lists.specs.Searches.{every};
 ghost use Rattle.notification.specs.Forms.{inPlaces};
 ghost use Rattle.tables.specs.Tables.{loadNumber};
 ghost use Rattle.tables.specs.Passing.{isAt, bitsFrom, lastLoad, loadRow, loadMost};
-use crate::actors::least;
-use crate::records::wide;
+use lists::numbers::least;
+use lists::numbers::wide;
 
 // The places for loads.
 pub const LOADS: u32 = 64;

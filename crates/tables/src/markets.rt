@@ -4,8 +4,8 @@ ghost use mathlib.Core.Bool.{cond};
 ghost use Prim.Native.Nat.{_≤_, _+_, _-_, _*_, min};
 ghost use Rattle.lists.specs.Searches.{firstFrom};
 ghost use Rattle.tables.specs.Passing.{bitsFrom, inMarket};
-use crate::actors::least;
 use crate::records::RECORDS;
+use lists::numbers::least;
 
 // A bit of a weight, set where a test passes.
 fn bit(passes: bool, weight: u32) -> u32

@@ -1,7 +1,7 @@
 // The records, in lent columns: of each its status, its id, its key, its mark (submitter, from-step, until-step) and
 // its row of powers.
 ghost use mathlib.Core.Path.{_≡_};
-ghost use Prim.Native.Nat.{_<_, _≤_};
+ghost use Prim.Native.Nat.{_<_};
 ghost use Rattle.tables.specs.Tables.{keyNumber};
 
 // The places for records.
@@ -26,18 +26,4 @@ pub fn key_number(ceder: u32, acquirer: u32, category: u32, day: u32) -> u32
     ensures { λ r. ⌜ (r ≡ keyNumber ceder acquirer category day) × (r < 9350400) ⌝ }
 {
     day * 256 + category * 64 + ceder * 8 + acquirer
-}
-
-// A number of sixteen bits in more.
-pub fn wide(x: u16) -> u32
-    ensures { λ r. ⌜ (r ≡ x) × (r ≤ 65535) ⌝ }
-{
-    x as u32
-}
-
-// A number of eight bits in more.
-pub fn byte(x: u8) -> u32
-    ensures { λ r. ⌜ (r ≡ x) × (r ≤ 255) ⌝ }
-{
-    x as u32
 }

@@ -6,10 +6,20 @@ use native.Mathlib.Omega.{arith}
 use lib.ListN.{length, take, drop}
 use Rattle.refusals.specs.declared.Verdict.the-variants.{Pass}
 use Rattle.notification.specs.Reading.{keyIn}
+use Rattle.reader.specs.Walking.{LineEnd}
+use Rattle.reader.proofs.Ends.{line-ends}
 use Rattle.reader.proofs.NameHeaders.{headed-long, headed-line, headed-end, headed-not}
 use Rattle.reader.proofs.Heading.{other-verdict, named-verdict, header-there, header-none, header-taken}
 use Rattle.reader.proofs.lines.take_header.Statement.{statement}
 use Rattle.reader.proofs.lines.take_header.Tie as tie
+
+-- the line that begins there, by its end
+module _ (c : tie.After-byte-from) where
+  abbrev start : tie.Start
+  start = c .before .before .before .before .before .before
+
+  ended : LineEnd (start .args .body .now) (start .args .from) (c .byte-from .result)
+  ended = line-ends _ (start .pre .1) (c .byte-from .ensures)
 
 returns : tie.Need-returns
 returns c = let x = c .before .before .before in header-there (keyIn (x .args .parts .now)) (x .args .body .now) (x .args .from) (x .args .t) (x .pre .1) (c .if1 .taken)
@@ -38,20 +48,22 @@ returns-2 c =
     header-taken (keyIn s) body from (x .args .t) r (headed-end s (x .pre .0) body from r refl h t) (c .before .before .before .if1 .left) h Pass _ _
     (named-verdict s (take (r - from) (drop from body)) (x .pre .0) (headed-line s (x .pre .0) body from r refl h t)) (c .with-header .ensures) (omega arith)
 
-line-end-requires : tie.Need-line-end-requires
-line-end-requires c κs = search needs
+byte-from-requires : tie.Need-byte-from-requires
+byte-from-requires c κs = search needs
 
 returns-3 : tie.Need-returns-3
-returns-3 c = let x = c .before .before .before .before .before .before .before in header-none (keyIn (x .args .parts .now)) (x .args .body .now) (x .args .from) (x .args .t) _ (c .before .line-end .ensures) (x .pre .1) (c .if3 .taken)
+returns-3 c =
+    let x = start (c .before) in
+    header-none (keyIn (x .args .parts .now)) (x .args .body .now) (x .args .from) (x .args .t) _ (ended (c .before)) (x .pre .1) (c .if3 .taken)
 
 sub-other-header : tie.Need-sub-other-header
-sub-other-header c = omega (arith, c .before .line-end .ensures .after)
+sub-other-header c = omega (arith, ended (c .before) .after)
 
 part-other-header-start : tie.Need-part-other-header-start
-part-other-header-start c = omega (arith, c .before .line-end .ensures .after)
+part-other-header-start c = omega (arith, ended (c .before) .after)
 
 part-other-header-end : tie.Need-part-other-header-end
-part-other-header-end c = omega (arith, c .before .line-end .ensures .after)
+part-other-header-end c = omega (arith, ended (c .before) .after)
 
 other-header-requires : tie.Need-other-header-requires
 other-header-requires c κs = search needs
@@ -64,16 +76,16 @@ add-t14 c = search needs
 
 returns-4 : tie.Need-returns-4
 returns-4 c =
-    let e = c .before .before .before .before .line-end in
-    let o = c .before .before .before .before .before .before in
-    let x = o .before .before .before .before in
+    let e = c .before .before .before .before in
+    let o = e .before .before in
+    let x = start e in
     let s = x .args .parts .now in
     let body = x .args .body .now in
     let from = x .args .from in
     let h = c .before .before .before .if3 .left in
     let f = sym (o .is-headed .ensures) ∙ c .before .before .before .before .before .if2 .left in
-    header-taken (keyIn s) body from (x .args .t) (e .result) (e .ensures) (o .before .if1 .left) h _ _ _
-    (other-verdict (keyIn s) (take (e .result - from) (drop from body)) _ (c .before .other-header .ensures) (headed-not s (x .pre .0) body from (e .result) (e .ensures) h f)) (c .with-header2 .ensures) refl
+    header-taken (keyIn s) body from (x .args .t) (e .byte-from .result) (ended e) (o .before .if1 .left) h _ _ _
+    (other-verdict (keyIn s) (take (e .byte-from .result - from) (drop from body)) _ (c .before .other-header .ensures) (headed-not s (x .pre .0) body from (e .byte-from .result) (ended e) h f)) (c .with-header2 .ensures) refl
 
 pub take-header-spec : {M : Type 1} → statement M
 take-header-spec =
@@ -85,7 +97,7 @@ take-header-spec =
     add-t12
     add-t13
     returns-2
-    line-end-requires
+    byte-from-requires
     returns-3
     sub-other-header
     part-other-header-start

@@ -5,9 +5,9 @@ use Prim.Native.Nat.{_+_, _-_, _≤_}
 use native.Mathlib.Omega.{arith}
 use lib.ListN.{length, drop}
 use Rattle.notification.specs.Reading.{linesIn}
-use Rattle.reader.specs.Walking.{wholeTo}
+use Rattle.reader.specs.Walking.{LineEnd, wholeTo}
 use Rattle.reader.specs.Folding.{takeSteps}
-use Rattle.reader.proofs.Ends.{whole-here, whole-over, take-first, take-none}
+use Rattle.reader.proofs.Ends.{line-ends, whole-here, whole-over, take-first, take-none}
 use Rattle.reader.proofs.steps.take_steps.Statement.{statement}
 use Rattle.reader.proofs.steps.take_steps.Tie as tie
 
@@ -19,34 +19,45 @@ Inv-loop steps body from powers₀ tally₀ at₀ powers tally at =
 abbrev μ-loop : tie.MeasureT-loop
 μ-loop steps body from powers₀ tally₀ at₀ powers tally at = length body - at
 
+-- the line that begins where the good ones end
+module _ (c : tie.After-byte-from Inv-loop μ-loop) where
+  abbrev good : tie.After-good-run Inv-loop μ-loop
+  good = c .before
+
+  abbrev start : tie.Start Inv-loop μ-loop
+  start = good .before .before .before .before
+
+  ended : LineEnd (start .args .body .now) (good .good-run .result .at) (c .byte-from .result)
+  ended = line-ends _ (good .good-run .ensures .within) (c .byte-from .ensures)
+
 loop-holds : tie.Need-loop-holds Inv-loop μ-loop
 loop-holds c = (search needs, refl, refl)
 
 good-run-requires : tie.Need-good-run-requires Inv-loop μ-loop
 good-run-requires c κs = search needs
 
-line-end-requires : tie.Need-line-end-requires Inv-loop μ-loop
-line-end-requires c κs = c .good-run .ensures .within
+byte-from-requires : tie.Need-byte-from-requires Inv-loop μ-loop
+byte-from-requires c κs = search needs
 
 returns : tie.Need-returns Inv-loop μ-loop
 returns c =
     let h = c .if1 .taken in
-    let n = c .before .line-end in
+    let n = c .before in
     let g = c .before .before .good-run in
     let l = c .before .before .before .before in
     let a = l .before .before .args in (
-      sym (l .loop .inv .1 ∙ (g .ensures .kept ∙ take-none (a .steps) (a .body .now) (g .result .at) (n .result) (n .ensures) _ h)),
-      omega (arith, l .loop .inv .2, g .ensures .rest, whole-over (a .body .now) (g .result .at) (n .result) (n .ensures) h),
+      sym (l .loop .inv .1 ∙ (g .ensures .kept ∙ take-none (a .steps) (a .body .now) (g .result .at) (n .byte-from .result) (ended n) _ h)),
+      omega (arith, l .loop .inv .2, g .ensures .rest, whole-over (a .body .now) (g .result .at) (n .byte-from .result) (ended n) h),
     )
 
 sub-take-step : tie.Need-sub-take-step Inv-loop μ-loop
-sub-take-step c = omega (arith, c .before .before .line-end .ensures .after, c .before .before .line-end .ensures .within)
+sub-take-step c = omega (arith, ended (c .before .before) .after, ended (c .before .before) .within)
 
 part-take-step-start : tie.Need-part-take-step-start Inv-loop μ-loop
-part-take-step-start c = omega (arith, c .before .before .line-end .ensures .after, c .before .before .line-end .ensures .within)
+part-take-step-start c = omega (arith, ended (c .before .before) .after, ended (c .before .before) .within)
 
 part-take-step-end : tie.Need-part-take-step-end Inv-loop μ-loop
-part-take-step-end c = omega (arith, c .before .before .line-end .ensures .after, c .before .before .line-end .ensures .within)
+part-take-step-end c = omega (arith, ended (c .before .before) .after, ended (c .before .before) .within)
 
 take-step-requires : tie.Need-take-step-requires Inv-loop μ-loop
 take-step-requires c κs = search needs
@@ -57,7 +68,7 @@ add-at c = search needs
 loop-less : tie.Need-loop-less Inv-loop μ-loop
 loop-less c =
     let e = c .before .before .before .before .before in
-    omega (arith, e .line-end .ensures .after, e .before .good-run .ensures .after, c .before .before .before .before .if1 .left)
+    omega (arith, ended e .after, e .before .good-run .ensures .after, c .before .before .before .before .if1 .left)
 
 loop-again : tie.Need-loop-again Inv-loop μ-loop
 loop-again c =
@@ -66,10 +77,10 @@ loop-again c =
     let g = e .before .good-run in
     let l = e .before .before .before in
     let a = l .before .before .args in
-    let n = e .line-end in (
+    let n = e in (
       omega (arith, h),
-      l .loop .inv .1 ∙ (g .ensures .kept ∙ take-first (a .steps) (a .body .now) (g .result .at) (n .result) (n .ensures) _ _ h (c .take-step .ensures)),
-      l .loop .inv .2 ∙ (g .ensures .rest ∙ whole-here (a .body .now) (g .result .at) (n .result) (n .ensures) h),
+      l .loop .inv .1 ∙ (g .ensures .kept ∙ take-first (a .steps) (a .body .now) (g .result .at) (n .byte-from .result) (ended n) _ _ h (c .take-step .ensures)),
+      l .loop .inv .2 ∙ (g .ensures .rest ∙ whole-here (a .body .now) (g .result .at) (n .byte-from .result) (ended n) h),
     )
 
 pub take-steps-spec : {M : Type 1} → statement M
@@ -80,7 +91,7 @@ take-steps-spec =
     μ-loop
     loop-holds
     good-run-requires
-    line-end-requires
+    byte-from-requires
     returns
     sub-take-step
     part-take-step-start
