@@ -10,7 +10,7 @@ use borrow.Author.Tests.{eqb-true, eqb-false, eq-eqb, ne-eqb, ltb-true, ltb-fals
 use Rattle.lists.proofs.Tests.{by-test}
 use Rattle.notification.specs.Forms.{digits, powerEnd}
 use Rattle.notification.specs.Writing.{powerText}
-use Rattle.reader.specs.Walking.{digitValue, powerOf}
+use Rattle.reader.specs.Walking.{digitValue, leadingPower}
 use Rattle.reader.specs.declared.power.Power.{Power}
 use Rattle.reader.specs.declared.power.Power.the-variants.{Is, Not}
 
@@ -37,49 +37,49 @@ digit-value d h = let e = value-from (48 + d) (omega arith) in omega arith
 -- ---- the ways through five bytes, as a reader goes them
 
 module _ (a b c d e : ℕ) where
-  pub no-first : (x : ℕ) → x ≡ digitValue a → 9 < x → Not ≡ powerOf a b c d e
-  unfolding powerOf
+  pub no-first : (x : ℕ) → x ≡ digitValue a → 9 < x → Not ≡ leadingPower a b c d e
+  unfolding leadingPower
   no-first x p h = rw (← p, lt-ltb 9 x h)
 
-  pub one-digit : (x : ℕ) → x ≡ digitValue a → x ≤ 9 → b ≡ 59 → Is x 2 ≡ powerOf a b c d e
-  unfolding powerOf
+  pub one-digit : (x : ℕ) → x ≡ digitValue a → x ≤ 9 → b ≡ 59 → Is x 2 ≡ leadingPower a b c d e
+  unfolding leadingPower
   one-digit x p h q = rw (← p, le-ltb 9 x h, eq-eqb b 59 q)
 
   module _ (x y : ℕ) (p : x ≡ digitValue a) (h : x ≤ 9) (q : b ≡ 59 → ⊥) (r : y ≡ digitValue b) where
-    pub no-second : 9 < y → Not ≡ powerOf a b c d e
-    unfolding powerOf
+    pub no-second : 9 < y → Not ≡ leadingPower a b c d e
+    unfolding leadingPower
     no-second k = rw (← p, ← r, le-ltb 9 x h, ne-eqb b 59 q, lt-ltb 9 y k)
 
-    pub needless : y ≤ 9 → x ≡ 0 → Not ≡ powerOf a b c d e
-    unfolding powerOf
+    pub needless : y ≤ 9 → x ≡ 0 → Not ≡ leadingPower a b c d e
+    unfolding leadingPower
     needless k z = rw (← p, ← r, le-ltb 9 x h, ne-eqb b 59 q, le-ltb 9 y k, eq-eqb x 0 z)
 
     module _ (k : y ≤ 9) (z : x ≡ 0 → ⊥) where
-      pub two-digits : c ≡ 59 → Is (x * 10 + y) 3 ≡ powerOf a b c d e
-      unfolding powerOf
+      pub two-digits : c ≡ 59 → Is (x * 10 + y) 3 ≡ leadingPower a b c d e
+      unfolding leadingPower
       two-digits g = rw (← p, ← r, le-ltb 9 x h, ne-eqb b 59 q, le-ltb 9 y k, ne-eqb x 0 z, eq-eqb c 59 g)
 
       module _ (g : c ≡ 59 → ⊥) (u : ℕ) (m : u ≡ digitValue c) where
-        pub no-third : 9 < u → Not ≡ powerOf a b c d e
-        unfolding powerOf
+        pub no-third : 9 < u → Not ≡ leadingPower a b c d e
+        unfolding leadingPower
         no-third l = rw (← p, ← r, ← m, le-ltb 9 x h, ne-eqb b 59 q, le-ltb 9 y k, ne-eqb x 0 z, ne-eqb c 59 g, lt-ltb 9 u l)
 
         module _ (l : u ≤ 9) where
-          pub three-digits : d ≡ 59 → Is ((x * 10 + y) * 10 + u) 4 ≡ powerOf a b c d e
-          unfolding powerOf
+          pub three-digits : d ≡ 59 → Is ((x * 10 + y) * 10 + u) 4 ≡ leadingPower a b c d e
+          unfolding leadingPower
           three-digits f = rw (← p, ← r, ← m, le-ltb 9 x h, ne-eqb b 59 q, le-ltb 9 y k, ne-eqb x 0 z, ne-eqb c 59 g, le-ltb 9 u l, eq-eqb d 59 f)
 
           module _ (f : d ≡ 59 → ⊥) (w : ℕ) (n : w ≡ digitValue d) where
-            pub no-fourth : 9 < w → Not ≡ powerOf a b c d e
-            unfolding powerOf
+            pub no-fourth : 9 < w → Not ≡ leadingPower a b c d e
+            unfolding leadingPower
             no-fourth o = rw (← p, ← r, ← m, ← n, le-ltb 9 x h, ne-eqb b 59 q, le-ltb 9 y k, ne-eqb x 0 z, ne-eqb c 59 g, le-ltb 9 u l, ne-eqb d 59 f, lt-ltb 9 w o)
 
-            pub four-digits : w ≤ 9 → e ≡ 59 → Is (((x * 10 + y) * 10 + u) * 10 + w) 5 ≡ powerOf a b c d e
-            unfolding powerOf
+            pub four-digits : w ≤ 9 → e ≡ 59 → Is (((x * 10 + y) * 10 + u) * 10 + w) 5 ≡ leadingPower a b c d e
+            unfolding leadingPower
             four-digits o i = rw (← p, ← r, ← m, ← n, le-ltb 9 x h, ne-eqb b 59 q, le-ltb 9 y k, ne-eqb x 0 z, ne-eqb c 59 g, le-ltb 9 u l, ne-eqb d 59 f, le-ltb 9 w o, eq-eqb e 59 i)
 
-            pub no-end : w ≤ 9 → (e ≡ 59 → ⊥) → Not ≡ powerOf a b c d e
-            unfolding powerOf
+            pub no-end : w ≤ 9 → (e ≡ 59 → ⊥) → Not ≡ leadingPower a b c d e
+            unfolding leadingPower
             no-end o i = rw (← p, ← r, ← m, ← n, le-ltb 9 x h, ne-eqb b 59 q, le-ltb 9 y k, ne-eqb x 0 z, ne-eqb c 59 g, le-ltb 9 u l, ne-eqb d 59 f, le-ltb 9 w o, ne-eqb e 59 i)
 
 -- ---- the digits of a power by how many there are
@@ -166,8 +166,8 @@ module _ (a b c d e : ℕ) where
       let o : d ≡ 48 + xyzw % 10 = omega (arith, value-byte d m) in
       record { small = omega arith; least = omega arith; most = omega arith; end = q; text = rw (digits-four xyzw i) (cc) }
 
-  says : Says five (powerOf a b c d e)
-  unfolding powerOf
+  says : Says five (leadingPower a b c d e)
+  unfolding leadingPower
   says =
       by-test (ltb 9 (digitValue a)) (λ t. rw t tt)
       (λ t. by-test (eqb b 59) (λ u. rw (t, u) (text-one (ltb-false 9 (digitValue a) t) (eqb-true b 59 u)))
@@ -189,7 +189,7 @@ abbrev pub firsts : List ℕ → List ℕ
 firsts s = getD s 0 0 ∷ getD s 1 0 ∷ getD s 2 0 ∷ getD s 3 0 ∷ getD s 4 0 ∷ []
 
 abbrev pub powerIn : List ℕ → Power
-powerIn s = powerOf (getD s 0 0) (getD s 1 0) (getD s 2 0) (getD s 3 0) (getD s 4 0)
+powerIn s = leadingPower (getD s 0 0) (getD s 1 0) (getD s 2 0) (getD s 3 0) (getD s 4 0)
 
 same-byte : (s : List ℕ) (i : ℕ) → i < 5 → getD (firsts s) i 0 ≡ getD s i 0
 same-byte s zero h = refl
@@ -261,7 +261,7 @@ power-found v rest h =
         let r = four-digits (48 + v / 1000) (48 + v / 100 % 10) (48 + v / 10 % 10) (48 + v % 10) 59 (v / 1000) (v / 100 % 10) (sym (digit-value (v / 1000) p)) (omega arith) (λ (z : 48 + v / 100 % 10 ≡ 59). omega arith) (sym (digit-value (v / 100 % 10) q)) (omega arith) (λ (z : v / 1000 ≡ 0). omega arith) (λ (z : 48 + v / 10 % 10 ≡ 59). omega arith) (v / 10 % 10) (sym (digit-value (v / 10 % 10) o)) (omega arith) (λ (z : 48 + v % 10 ≡ 59). omega arith) (v % 10) (sym (digit-value (v % 10) m)) (omega arith) refl in
         rw (digits-four v k) (sym (rw e at r))
 
-pub power-few : (a b c d e v n : ℕ) → powerOf a b c d e ≡ Is v n → (2 ≤ n) × (n ≤ 5)
+pub power-few : (a b c d e v n : ℕ) → leadingPower a b c d e ≡ Is v n → (2 ≤ n) × (n ≤ 5)
 power-few a b c d e v n p =
     let t : Text (a ∷ b ∷ c ∷ d ∷ e ∷ []) v n = rw p at (says a b c d e) in
     (t .least, t .most)

@@ -15,7 +15,7 @@ use Rattle.calendar.specs.declared.labels.Labels.{Labels}
 use Rattle.notification.specs.Forms.{places}
 use Rattle.notification.specs.Writing.{labelText, labelsText, powerText}
 use Rattle.notification.specs.Reading.{hasLabels, restOf, valueOf, isPower}
-use Rattle.reader.specs.Walking.{startsWith, powerOf, linePower}
+use Rattle.reader.specs.Walking.{startsWith, leadingPower, linePower}
 use Rattle.reader.specs.declared.power.Power.{Power}
 use Rattle.reader.specs.declared.power.Power.the-variants.{Is, Not}
 use Rattle.reader.specs.declared.tally.LinePower.the-variants.{Gives, NoLabels, NoPower}
@@ -121,7 +121,7 @@ module _ (steps k : ℕ) (line : List ℕ) (l : Labels) (h : k < steps) (g : ste
       has-both = rw (has-texts, ← p, ← r, not-false t q, not-false u f)
 
       abbrev found : Power
-      found = powerOf (getD line at 0) (getD line (at + 1) 0) (getD line (at + 2) 0) (getD line (at + 3) 0) (getD line (at + 4) 0)
+      found = leadingPower (getD line at 0) (getD line (at + 1) 0) (getD line (at + 2) 0) (getD line (at + 3) 0) (getD line (at + 4) 0)
 
       found-rest : powerIn (restOf steps k line) ≡ found
       found-rest =

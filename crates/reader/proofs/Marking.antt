@@ -13,7 +13,7 @@ use Rattle.calendar.specs.Steps.{plainSteps, stepMinutes}
 use Rattle.calendar.specs.Labels.{turnOf, minuteOf, againAt, labelOf}
 use Rattle.notification.specs.Forms.{places}
 use Rattle.notification.specs.Writing.{labelText}
-use Rattle.reader.specs.Walking.{sixAt, six, noMark, timeMark, timesText, halfHours, markOf, Plain, powerOf, LineAt}
+use Rattle.reader.specs.Walking.{sixAt, six, noMark, timeMark, timesText, halfHours, markOf, Plain, leadingPower, LineAt}
 use Rattle.reader.specs.declared.power.Power.the-variants.{Is}
 
 -- ---- the marks, as a reader makes them
@@ -265,7 +265,7 @@ there s i e =
 
 pub line-at : (s : List ℕ) (at from until v n b : ℕ) → ((i : ℕ) → getD s i 0 < 256)
     → (sixAt s at ≡ from) × (sixAt s (at + 6) ≡ until)
-    → Is v n ≡ powerOf (getD s (at + 12) 0) (getD s (at + 12 + 1) 0) (getD s (at + 12 + 2) 0) (getD s (at + 12 + 3) 0) (getD s (at + 12 + 4) 0)
+    → Is v n ≡ leadingPower (getD s (at + 12) 0) (getD s (at + 12 + 1) 0) (getD s (at + 12 + 2) 0) (getD s (at + 12 + 3) 0) (getD s (at + 12 + 4) 0)
     → b ≡ getD s (at + 12 + n) 0 → b ≡ 10 → LineAt s at from until v (n + 13)
 line-at s at from until v n b h m p q e =
     let i : at + (n + 13) - 1 ≡ at + 12 + n = omega arith in

@@ -23,8 +23,8 @@ unfoldable pub digitValue : ℕ → ℕ
 digitValue b = cond (ltb b 48) (b + 4294967248) (b - 48)
 
 -- the power and `;` that five bytes begin with: one digit, or up to four that begin with no 0
-unfoldable pub powerOf : ℕ → ℕ → ℕ → ℕ → ℕ → PowerRead
-powerOf a b c d e =
+unfoldable pub leadingPower : ℕ → ℕ → ℕ → ℕ → ℕ → PowerRead
+leadingPower a b c d e =
     let two = digitValue a * 10 + digitValue b in
     let three = two * 10 + digitValue c in
     cond (ltb 9 (digitValue a)) Not
@@ -101,7 +101,7 @@ pub record LineAt (s : List ℕ) (at from until v n : ℕ) : Type 0 where
   pub bytes : (i : ℕ) → getD s i 0 < 256
   pub first : sixAt s at ≡ from
   pub second : sixAt s (at + 6) ≡ until
-  pub power : Is v (n - 13) ≡ powerOf (getD s (at + 12) 0) (getD s (at + 12 + 1) 0) (getD s (at + 12 + 2) 0) (getD s (at + 12 + 3) 0) (getD s (at + 12 + 4) 0)
+  pub power : Is v (n - 13) ≡ leadingPower (getD s (at + 12) 0) (getD s (at + 12 + 1) 0) (getD s (at + 12 + 2) 0) (getD s (at + 12 + 3) 0) (getD s (at + 12 + 4) 0)
   pub break : getD s (at + n - 1) 0 ≡ 10
   pub more : 13 ≤ n
   pub within : at + n ≤ length s

@@ -2,7 +2,7 @@
 ghost use mathlib.Core.Path.{_≡_};
 ghost use Prim.Native.Nat.{_+_, _≤_};
 ghost use lib.ListN.{length, getD};
-ghost use Rattle.reader.specs.Walking.{digitValue, powerOf};
+ghost use Rattle.reader.specs.Walking.{digitValue, leadingPower};
 
 // What bytes begin with: a power and `;`, with how many bytes these are, or no power.
 pub enum Power {
@@ -29,7 +29,7 @@ fn digit_value(b: u8) -> u32
 
 // The power and `;` that five bytes begin with: one digit, or up to four that begin with no 0.
 pub(crate) fn power_of(a: u8, b: u8, c: u8, d: u8, e: u8) -> Power
-    ensures { λ r. ⌜ r ≡ powerOf a b c d e ⌝ }
+    ensures { λ r. ⌜ r ≡ leadingPower a b c d e ⌝ }
 {
     let one = digit_value(a);
     if 9 < one {
@@ -71,7 +71,7 @@ pub(crate) fn power_of(a: u8, b: u8, c: u8, d: u8, e: u8) -> Power
 // The power and `;` at a place.
 pub(crate) fn power_at(s: &[u8], a: usize) -> Power
     requires { ⌜ a ≤ length (now s) ⌝ }
-    ensures { λ r. ⌜ r ≡ powerOf (getD (now (s .entry)) a 0) (getD (now (s .entry)) (a + 1) 0)
+    ensures { λ r. ⌜ r ≡ leadingPower (getD (now (s .entry)) a 0) (getD (now (s .entry)) (a + 1) 0)
         (getD (now (s .entry)) (a + 2) 0) (getD (now (s .entry)) (a + 3) 0) (getD (now (s .entry)) (a + 4) 0) ⌝ }
 {
     if 5 <= s.len() - a {

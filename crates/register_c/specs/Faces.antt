@@ -38,8 +38,8 @@ flatOf x =
     }
 
 -- a notification to write; number and place mean nothing there
-abbrev pub noteOf : FileRead → Notification
-noteOf x =
+abbrev pub noteToWrite : FileRead → Notification
+noteToWrite x =
     record {
       key = record { ceder = x .ceder; acquirer = x .acquirer; category = x .category; day = x .day };
       steps = x .steps;

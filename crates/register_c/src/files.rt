@@ -3,7 +3,7 @@ ghost use mathlib.Core.Path.{_≡_};
 ghost use lib.ListN.{length};
 ghost use Rattle.notification.specs.Reading.{readFile};
 ghost use Rattle.notification.specs.Writing.{nameOf, bodyOf, writeVerdict, writeAnswer, written};
-ghost use Rattle.register_c.specs.Faces.{flatOf, noteOf, flatWritten};
+ghost use Rattle.register_c.specs.Faces.{flatOf, noteToWrite, flatWritten};
 use crate::asking::number;
 use crate::asking::place;
 use notification::Key;
@@ -59,8 +59,8 @@ fn flat(x: Reading) -> FileRead
 }
 
 // The notification of a flat struct.
-fn note_of(x: FileRead) -> Notification
-    ensures { λ r. ⌜ r ≡ noteOf x ⌝ }
+fn note_to_write(x: FileRead) -> Notification
+    ensures { λ r. ⌜ r ≡ noteToWrite x ⌝ }
 {
     let ceder = x.ceder;
     let acquirer = x.acquirer;
@@ -118,13 +118,13 @@ pub extern "C" fn notification_read(name: &[u8], body: &[u8]) -> FileRead
 // notification that is refused leaves both as they are.
 #[no_mangle]
 pub extern "C" fn notification_write(n: FileRead, name: &mut [u8], body: &mut [u8]) -> FileWritten
-    ensures { λ r. ⌜ (let note = noteOf n in
+    ensures { λ r. ⌜ (let note = noteToWrite n in
         let verdict = writeVerdict note (length (now (name .entry))) (length (now (body .entry))) in
         (r ≡ flatWritten (writeAnswer note (length (now (name .entry))) (length (now (body .entry)))))
         × (now (name .exit) ≡ written verdict (nameOf (note .key)) (now (name .entry)))
         × (now (body .exit) ≡ written verdict (bodyOf note) (now (body .entry)))) ⌝ }
 {
-    let note = note_of(n);
+    let note = note_to_write(n);
     let answer = write_file(note, name, body);
     flat_written(answer)
 }

@@ -2,14 +2,9 @@ use Rattle.register_c.proofs.Writes.{written-of}
 use borrow.Author.Needs.{needs}
 use Rattle.register_c.proofs.files.notification_write.Statement.{statement}
 use Rattle.register_c.proofs.files.notification_write.Tie as tie
-use Rattle.register_c.proofs.files.notification_write.Reads as reads
-use Rattle.register_c.proofs.files.notification_write.Lts as lts
-use Rattle.register_c.proofs.files.flat_written.Reads as flat-written-reads
-use Rattle.register_c.proofs.files.note_of.Reads as note-of-reads
-use Rattle.writer.proofs.writing.write_file.Reads as write-file-reads
 
-note-of-requires : tie.Need-note-of-requires
-note-of-requires c κs = search needs
+note-to-write-requires : tie.Need-note-to-write-requires
+note-to-write-requires c κs = search needs
 
 write-file-requires : tie.Need-write-file-requires
 write-file-requires c κs = search needs
@@ -25,7 +20,7 @@ same-length-2 c = search needs
 
 returns : tie.Need-returns
 returns c =
-    written-of (c .before .before .before .before .before .before .before .before .note-of .ensures)
+    written-of (c .before .before .before .before .before .before .before .before .note-to-write .ensures)
     (c .before .before .before .before .before .write-file .ensures)
     (c .flat-written .ensures)
 
@@ -33,7 +28,7 @@ pub notification-write-spec : {M : Type 1} → statement M
 notification-write-spec =
     tie.close
     (tie.spec
-    note-of-requires
+    note-to-write-requires
     write-file-requires
     flat-written-requires
     same-length
