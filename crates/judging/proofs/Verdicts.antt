@@ -10,7 +10,7 @@ use lib.ListN.{getD}
 use borrow.Author.Tests.{le-ltb, leb-true, not-false}
 use Rattle.lists.specs.Searches.{firstFrom}
 use Rattle.lists.proofs.Searches.{first-agree, first-none}
-use Rattle.lists.proofs.Tests.{and-left, and-right, or-left, or-right}
+use Rattle.lists.proofs.Tests.{both-true, or-left, or-right}
 use Rattle.refusals.specs.Tests.{firstMet, tried}
 use Rattle.refusals.specs.declared.StateRefusal.{StateRefusal}
 use Rattle.refusals.specs.declared.Refusal.the-variants.{State}
@@ -45,24 +45,20 @@ fit-more p first s x failed e f t j h l = go (ℕ-discrete j s)
     go (no ne) = f (or-left failed (not x) t) j h (omega arith)
 
 -- the four checks of a step that fits
-module _ (c a p ceders acquirers : ℕ) (e : stepFits c a p ceders acquirers ≡ true) where
-  abbrev low : Bool
-  low = leb (base + p) c && leb c (base + p + ceders)
+abbrev Passes : (c a p ceders acquirers : ℕ) → Type 0
+Passes c a p ceders acquirers =
+    (ltb c (base + p) ≡ false) × (ltb (base + acquirers) (a + p) ≡ false) × (ltb (base + ceders + p) c ≡ false) × (ltb (a + p) base ≡ false)
 
-  abbrev high : Bool
-  high = leb base (a + p) && leb (a + p) (base + acquirers)
-
-  fits-32 : ltb c (base + p) ≡ false
-  fits-32 = le-ltb c (base + p) (leb-true (base + p) c (and-left (leb (base + p) c) (leb c (base + p + ceders)) (and-left low high e)))
-
-  fits-33 : ltb (base + acquirers) (a + p) ≡ false
-  fits-33 = le-ltb (base + acquirers) (a + p) (leb-true (a + p) (base + acquirers) (and-right (leb base (a + p)) (leb (a + p) (base + acquirers)) (and-right low high e)))
-
-  fits-34 : ltb (base + ceders + p) c ≡ false
-  fits-34 = le-ltb (base + ceders + p) c (omega (arith, leb-true c (base + p + ceders) (and-right (leb (base + p) c) (leb c (base + p + ceders)) (and-left low high e))))
-
-  fits-35 : ltb (a + p) base ≡ false
-  fits-35 = le-ltb (a + p) base (leb-true base (a + p) (and-left (leb base (a + p)) (leb (a + p) (base + acquirers)) (and-right low high e)))
+step-passes : (c a p ceders acquirers : ℕ) → stepFits c a p ceders acquirers ≡ true → Passes c a p ceders acquirers
+step-passes c a p ceders acquirers e =
+    let fits = both-true (leb (base + p) c && leb c (base + p + ceders)) (leb base (a + p) && leb (a + p) (base + acquirers)) e in
+    let ceder = both-true (leb (base + p) c) (leb c (base + p + ceders)) (fits .0) in
+    let acquirer = both-true (leb base (a + p)) (leb (a + p) (base + acquirers)) (fits .1) in (
+      le-ltb c (base + p) (leb-true (base + p) c (ceder .0)),
+      le-ltb (base + acquirers) (a + p) (leb-true (a + p) (base + acquirers) (acquirer .1)),
+      le-ltb (base + ceders + p) c (omega (arith, leb-true c (base + p + ceders) (ceder .1))),
+      le-ltb (a + p) base (leb-true base (a + p) (acquirer .0)),
+    )
 
 pub all-passed : (nets : Nets) (ps : List ℕ) (ceders acquirers first until : ℕ) → first ≤ until →
     ((s : ℕ) → first ≤ s → s < until → stepFits (getD (nets .ceder) s 0) (getD (nets .acquirer) s 0) (getD ps s 0) ceders acquirers ≡ true) →
@@ -71,17 +67,8 @@ unfolding netTests
 all-passed nets ps ceders acquirers first until h fit =
     let none : (p : ℕ → Bool) → ((s : ℕ) → first ≤ s → s < until → p s ≡ false) → ltb (firstFrom p first (until - first)) until ≡ false =
     λ p f. le-ltb _ until (omega (arith, first-none p first (until - first) (λ k a b. f k a (omega arith)))) in
+    let at : (s : ℕ) → first ≤ s → s < until → Passes (getD (nets .ceder) s 0) (getD (nets .acquirer) s 0) (getD ps s 0) ceders acquirers =
+    λ s a b. step-passes _ _ _ ceders acquirers (fit s a b) in
     sym
-    (all-pass (netTests nets ps ceders acquirers first until) (
-      none _ (λ s a b. fits-32 (getD (nets .ceder) s 0) (getD (nets .acquirer) s 0) (getD ps s 0) ceders acquirers (fit s a b)),
-      (
-        none _ (λ s a b. fits-33 (getD (nets .ceder) s 0) (getD (nets .acquirer) s 0) (getD ps s 0) ceders acquirers (fit s a b)),
-        (
-          none _ (λ s a b. fits-34 (getD (nets .ceder) s 0) (getD (nets .acquirer) s 0) (getD ps s 0) ceders acquirers (fit s a b)),
-          (
-            none _ (λ s a b. fits-35 (getD (nets .ceder) s 0) (getD (nets .acquirer) s 0) (getD ps s 0) ceders acquirers (fit s a b)),
-            tt,
-          ),
-        ),
-      ),
-    ))
+    (all-pass (netTests nets ps ceders acquirers first until)
+    (none _ (λ s a b. at s a b .0), (none _ (λ s a b. at s a b .1), (none _ (λ s a b. at s a b .2), (none _ (λ s a b. at s a b .3), tt)))))

@@ -46,34 +46,33 @@ module _ (r : Register) (c : Call) (z : Sized r) where
         (λ cols ls. does-refused (lent (r .head) cols ls) c (No f) f (j cols ls) refl)
     by-head h y la lz Pass j e = next-head h y la lz (e refl)
 
-pub next-advance : (r : Register) (day minute : ℕ) → Sized r → (v : Verdict) → v ≡ verdictOf (held r) (advance day minute) → Next r (advance day minute)
+pub next-advance : (r : Register) (day minute : ℕ) → Sized r → Next r (advance day minute)
 unfolding verdictOf effect view writes
-next-advance r day minute z v e =
+next-advance r day minute z =
     by-head r (advance day minute) z
     (λ h y s. did-advance (r .columns) (r .loads) (r .head, (day, (minute, tt))) (record { head = h; answer = y }) (r .head, (day, (minute, tt))) (λ t. s))
-    (withClock (r .head) (moment day minute)) Moved (z .actors) (z .categories) v (λ cols ls. e)
-    (λ p cols ls. does-passed (lent (r .head) cols ls) _ (advance day minute) Moved v e p refl refl)
+    (withClock (r .head) (moment day minute)) Moved (z .actors) (z .categories) (verdictOf (held r) (advance day minute)) (λ cols ls. refl)
+    (λ p cols ls. does-passed (lent (r .head) cols ls) _ (advance day minute) Moved _ refl p refl refl)
 
-pub next-actor : (r : Register) (code : List ℕ) (first last : ℕ) → Sized r → (v : Verdict) → v ≡ verdictOf (held r) (enrolActor code first last) →
-    Next r (enrolActor code first last)
+pub next-actor : (r : Register) (code : List ℕ) (first last : ℕ) → Sized r → Next r (enrolActor code first last)
 unfolding verdictOf view actorTests
-next-actor r code first last z v e =
+next-actor r code first last z =
     let h = r .head in
     let x : Actors = moreActors (h .actors) (record { code = code; first = first; last = last }) in
     by-head r (enrolActor code first last) z
     (λ h y s. did-actor (r .columns) (r .loads) ([], tt) (r .head, (ref code, (first, (last, tt)))) (record { head = h; answer = y }) (r .head, (ref code, (first, (last, tt)))) (λ t. s))
-    (withActors h x) (Held (x .count)) (length-set (h .actors .entries) (h .actors .count) _ ∙ z .actors) (z .categories) v (λ cols ls. e)
-    (λ p cols ls. actor-done h cols ls code first last (z .actors) (sym e ∙ p) code x refl refl)
+    (withActors h x) (Held (x .count)) (length-set (h .actors .entries) (h .actors .count) _ ∙ z .actors) (z .categories)
+    (verdictOf (held r) (enrolActor code first last)) (λ cols ls. refl) (λ p cols ls. actor-done h cols ls code first last (z .actors) p code x refl refl)
 
-pub next-category : (r : Register) (text : List ℕ) → Sized r → (v : Verdict) → v ≡ verdictOf (held r) (enrolCategory text) → Next r (enrolCategory text)
+pub next-category : (r : Register) (text : List ℕ) → Sized r → Next r (enrolCategory text)
 unfolding verdictOf view categoryTests
-next-category r text z v e =
+next-category r text z =
     let h = r .head in
     let x : Categories = moreCategories (h .categories) (record { text = sixBytes text }) in
     by-head r (enrolCategory text) z
     (λ h y s. did-category (r .columns) (r .loads) ([], tt) (r .head, (ref text, tt)) (record { head = h; answer = y }) (r .head, (ref text, tt)) (λ t. s))
-    (withCategories h x) (Held (x .count)) (z .actors) (length-set (h .categories .entries) (h .categories .count) _ ∙ z .categories) v (λ cols ls. e)
-    (λ p cols ls. category-done h cols ls text (z .categories) (sym e ∙ p) (sixBytes text) x refl refl)
+    (withCategories h x) (Held (x .count)) (z .actors) (length-set (h .categories .entries) (h .categories .count) _ ∙ z .categories)
+    (verdictOf (held r) (enrolCategory text)) (λ cols ls. refl) (λ p cols ls. category-done h cols ls text (z .categories) p (sixBytes text) x refl refl)
 
 -- ---- a load
 
@@ -95,11 +94,11 @@ module _ (r : Register) (actor category : List ℕ) (day most : ℕ) (ps : List 
         sized = record { actors = z .actors; categories = z .categories; loads = s; records = z .records };
       }
 
-  pub next-load : (v : Verdict) → v ≡ verdictOf (held r) loading → Next r loading
+  by-verdict : (v : Verdict) → v ≡ verdictOf (held r) loading → Next r loading
   unfolding verdictOf view loadTests
-  next-load (No f) e =
+  by-verdict (No f) e =
       loads-next (r .head .loads) (r .loads) (Refused f) (z .loads) (λ cols. does-refused (lent (r .head) cols (r .loads)) loading (No f) f e refl)
-  next-load Pass e =
+  by-verdict Pass e =
       let h = r .head in
       let a = actorAt (held r .actors) actor in
       let k = categoryAt (held r .categories) category in
@@ -112,3 +111,6 @@ module _ (r : Register) (actor category : List ℕ) (day most : ℕ) (ps : List 
       })
       (λ cols.
       load-done h cols (r .loads) actor category day most ps (z .actors) (z .categories) (sym e) a k _ _ refl refl refl refl (s .keys) (s .approved) (s .rows))
+
+  pub next-load : Next r loading
+  next-load = by-verdict _ refl

@@ -24,11 +24,11 @@ use Rattle.register.proofs.AsksExist.{engagement-exists, record-exists,
 -- ---- every list
 
 pub next : (r : Register) → Sized r → (c : Call) → Next r c
-next r z (enrolActor code first last) = next-actor r code first last z _ refl
-next r z (enrolCategory text) = next-category r text z _ refl
-next r z (load actor category day most ps) = next-load r actor category day most ps z _ refl
+next r z (enrolActor code first last) = next-actor r code first last z
+next r z (enrolCategory text) = next-category r text z
+next r z (load actor category day most ps) = next-load r actor category day most ps z
 next r z (file SevenDays submitter (csv name body)) = next-file r submitter name body z
-next r z (advance day minute) = next-advance r day minute z _ refl
+next r z (advance day minute) = next-advance r day minute z
 
 -- the answers of a list of calls, and the register that it leaves
 pub record Run (r : Register) (cs : List Call) : Type 1 where
