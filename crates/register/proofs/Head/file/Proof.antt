@@ -11,6 +11,17 @@ use borrow.Author.Needs.{needs}
 use Rattle.register.proofs.Head.file.Statement.{statement}
 use Rattle.register.proofs.Head.file.Tie as tie
 
+-- back from a context to an earlier one
+abbrev start : tie.After-read-file → tie.Start
+start c = c .before .before .before .before
+
+-- the register that was lent
+abbrev register : tie.Start → Register
+register b =
+    let a = b .args in
+    lent (a .self) (columns (a .statuses .now) (a .ids .now) (a .keys .now) (a .marks .now) (a .rows .now))
+    (loadColumns (a .numbers .now) (a .approved .now) (a .loads .now))
+
 read-file-requires : tie.Need-read-file-requires
 read-file-requires c κs = search needs
 
@@ -22,13 +33,13 @@ refused-requires c κs = search needs
 
 returns : tie.Need-returns
 returns c =
-    let a = c .before .before .before .before .before .before .before .before .args in
-    let r : Register =
-    lent (a .self) (columns (a .statuses .now) (a .ids .now) (a .keys .now) (a .marks .now) (a .rows .now))
-    (loadColumns (a .numbers .now) (a .approved .now) (a .loads .now)) in
+    let at-read-file = c .before .before .before .before in
+    let b = start at-read-file in
+    let a = b .args in
+    let r = register b in
     ap (λ (y : Reply). seen (lent (y .head) (r .columns) (r .loads)) (y .answer)) (c .refused .ensures)
     ∙ form-unread r SevenDays (a .submitter .now) (csv (a .name .now) (a .body .now)) _
-    (file-read (a .submitter .now) (a .name .now) (a .body .now) _ (c .before .before .before .before .read-file .ensures)) _ (c .before .before .verdict .given .1)
+    (file-read (a .submitter .now) (a .name .now) (a .body .now) _ (at-read-file .read-file .ensures)) _ (c .before .before .verdict .given .1)
 
 enum-told : tie.Need-enum-told
 enum-told c = search needs
@@ -38,12 +49,12 @@ file-note-requires c κs = search needs
 
 returns-2 : tie.Need-returns-2
 returns-2 c =
-    let a = c .before .before .before .before .before .before .before .before .before .before .before .before .args in
-    let r : Register =
-    lent (a .self) (columns (a .statuses .now) (a .ids .now) (a .keys .now) (a .marks .now) (a .rows .now))
-    (loadColumns (a .numbers .now) (a .approved .now) (a .loads .now)) in
+    let at-read-file = c .before .before .before .before .before .before .before .before in
+    let b = start at-read-file in
+    let a = b .args in
+    let r = register b in
     form-read r SevenDays (a .submitter .now) (csv (a .name .now) (a .body .now)) _
-    (file-read (a .submitter .now) (a .name .now) (a .body .now) _ (c .before .before .before .before .before .before .before .before .read-file .ensures)) (c .before .before .before .before .before .before .enum-told .given .1) _ (c .file-note .ensures)
+    (file-read (a .submitter .now) (a .name .now) (a .body .now) _ (at-read-file .read-file .ensures)) (c .before .before .before .before .before .before .enum-told .given .1) _ (c .file-note .ensures)
 
 pub file-spec : {M : Type 1} → statement M
 file-spec =

@@ -14,6 +14,10 @@ use borrow.Author.Needs.{needs}
 use Rattle.register.proofs.Head.judge.Statement.{statement}
 use Rattle.register.proofs.Head.judge.Tie as tie
 
+-- back from a context to an earlier one
+abbrev start : tie.After-least → tie.Start
+start c = c .before .before .before .before .before .before .before .before .before
+
 enrolled-requires : tie.Need-enrolled-requires
 enrolled-requires c κs = search needs
 
@@ -75,7 +79,7 @@ try-state-requires c κs = search needs
 
 returns-3 : tie.Need-returns-3
 returns-3 c =
-    let a = c .before .before .before .before .before .before .before .before .before .before .args in (
+    let a = start (c .before) .args in (
       (λ ids.
           let cols = columns (a .statuses .now) ids (a .keys .now) (a .marks .now) (a .rows .now) in
           let loads = loadColumns (a .numbers .now) (a .approved .now) (a .loads .now) in

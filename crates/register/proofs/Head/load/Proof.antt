@@ -31,8 +31,11 @@ room t =
     (sym (v .load-verdict .ensures noColumns [] []) ∙ t .enum-told .given .1)
 
 -- where the columns are written
+abbrev in-row : tie.After-size-rows → tie.After-in-places
+in-row c = c .before .before .before .before .before .before .before .before .before
+
 abbrev accepted : tie.After-size-rows → tie.After-enum-told
-accepted c = c .before .before .before .before .before .before .before .before .before .before .before .before .before .before .before
+accepted c = in-row c .before .before .before .before .before .before
 
 load-verdict-requires : tie.Need-load-verdict-requires
 load-verdict-requires c κs = search needs

@@ -5,6 +5,10 @@ use borrow.Author.Needs.{needs}
 use Rattle.register.proofs.Head.places.Statement.{statement}
 use Rattle.register.proofs.Head.places.Tie as tie
 
+-- back from a context to an earlier one
+abbrev start : tie.After-place → tie.Start
+start c = c .before .before .before .before .before .before .before .before .before
+
 slice-aggregate-place : tie.Need-slice-aggregate-place
 slice-aggregate-place c = search needs
 
@@ -13,7 +17,7 @@ place-requires c κs = search needs
 
 slice-aggregate-place-2 : tie.Need-slice-aggregate-place-2
 slice-aggregate-place-2 c =
-    let a = c .before .before .before .before .before .before .before .before .before .before in
+    let a = start (c .before) in
     sym (acquirer-length (a .args .n) _ (a .good .1 .1 .0))
 
 place-requires-2 : tie.Need-place-requires-2
@@ -27,7 +31,7 @@ place-of-six-requires c κs = search needs
 
 returns : tie.Need-returns
 returns c cols loads =
-    let a = c .before .before .before .before .before .before .before .before .before .before .before .before .before in
+    let a = start (c .before .before .before .before) in
     placed (a .args .self) cols loads _ (a .args .n) _ _ _ _ (c .before .before .before .before .place .ensures) (c .before .before .place2 .ensures) (c .before .place3 .ensures) (c .place-of-six .ensures)
 
 pub places-spec : {M : Type 1} → statement M

@@ -9,6 +9,16 @@ use borrow.Author.Needs.{needs}
 use Rattle.register.proofs.Head.record_note.Statement.{statement}
 use Rattle.register.proofs.Head.record_note.Tie as tie
 
+-- back from a context to an earlier one
+abbrev after-size-marks : tie.After-is-paired → tie.After-size-marks
+after-size-marks c = c .before .before .before .before .before .before .before .before
+
+abbrev after-size-u8 : tie.After-size-marks → tie.After-size-u8
+after-size-u8 c = c .before .before .before .before .before .before .before .before .before
+
+abbrev start : tie.After-size-u8 → tie.Start
+start c = c .before .before .before .before .before .before .before
+
 key-number-requires : tie.Need-key-number-requires
 key-number-requires c κs = let j = c .pre .0 .judgeable in (j .ceder, j .acquirer, j .category, j .day)
 
@@ -38,12 +48,13 @@ few : (b : tie.Start) → b .args .count ≤ 256
 few b = omega (arith, b .pre .1 .few)
 
 is-paired-requires : tie.Need-is-paired-requires
-is-paired-requires c κs = few (c .before .before .before .before .before .before .before .before .before .before .before .before .before .before .before .before .before .before .before .before .before .before .before)
+is-paired-requires c κs = few (start (after-size-u8 (c .before .before .before .before .before .before .before)))
 
 change-all-requires : tie.Need-change-all-requires
 change-all-requires c κs =
-    let b = c .before .before .before .before .before .before .before .before .before .before .before .before .before .before .before .before .before .before .before .before .before .before .before .before .before .before .before .before in
-    (few b, first-small (b .args .self) (b .args .at) _ (b .pre .0 .judgeable) (c .before .before .before .before .before .before .before .before .before .before .before .before .before .before .before .before .before .before .before .before .before .before .before .before .before .before .before .key-number .ensures .0))
+    let at-is-paired = c .before .before .before .before in
+    let b = start (after-size-u8 (after-size-marks at-is-paired)) in
+    (few b, first-small (b .args .self) (b .args .at) _ (b .pre .0 .judgeable) (after-size-u8 (after-size-marks at-is-paired) .before .before .before .before .before .before .key-number .ensures .0))
 
 status-of-requires : tie.Need-status-of-requires
 status-of-requires c κs = search needs
@@ -51,7 +62,7 @@ status-of-requires c κs = search needs
 -- what is known of the filing once its status is
 module _ (c : tie.After-status-of) where
   abbrev b : tie.Start
-  b = c .before .before .before .before .before .before .before .before .before .before .before .before .before .before .before .before .before .before .before .before .before .before .before .before .before .before .before .before .before .before
+  b = start (after-size-u8 (after-size-marks (c .before .before .before .before .before .before)))
 
   room : b .args .self .records < 256
   room = b .pre .0 .room
@@ -81,13 +92,15 @@ element-write-keys : tie.Need-element-write-keys
 element-write-keys c = room c
 
 cast-t54 : tie.Need-cast-t54
-cast-t54 c = omega (arith, c .before .before .before .before .before .before .before .before .before .before .before .before .before .before .before .before .before .before .before .before .before .before .before .before .before .before .before .before .before .before .pre .0 .judgeable .submitter)
+cast-t54 c = omega (arith, start (after-size-u8 (after-size-marks (c .before .before .before .before .before .before))) .pre .0 .judgeable .submitter)
 
 cast-t55 : tie.Need-cast-t55
-cast-t55 c = omega (arith, c .before .before .before .before .before .before .before .before .before .before .before .before .before .before .before .before .before .before .before .before .before .before .before .before .before .before .before .first-counted .ensures, c .before .before .before .before .before .before .before .before .before .before .before .before .before .before .before .before .before .before .before .before .before .before .before .before .before .before .before .before .before .before .pre .0 .judgeable .counted, steps c)
+cast-t55 c =
+    let at-is-paired = c .before .before .before .before .before .before in
+    omega (arith, after-size-u8 (after-size-marks at-is-paired) .before .before .before .before .first-counted .ensures, start (after-size-u8 (after-size-marks at-is-paired)) .pre .0 .judgeable .counted, steps c)
 
 cast-t56 : tie.Need-cast-t56
-cast-t56 c = omega (arith, c .before .before .before .before .before .before .before .before .before .before .before .before .before .before .before .before .before .before .before .before .before .before .before .before .before .before .steps-of .ensures, steps c)
+cast-t56 c = omega (arith, after-size-u8 (after-size-marks (c .before .before .before .before .before .before)) .before .before .before .steps-of .ensures, steps c)
 
 mul-t49 : tie.Need-mul-t49
 mul-t49 c = omega (arith, room c)
@@ -106,17 +119,18 @@ add-head c = omega (arith, room c)
 
 returns : tie.Need-returns
 returns c =
-    let b = c .before .before .before .before .before .before .before .before .before .before .before .before .before .before .before .before .before .before .before .before .before .before .before .before .before .before .before .before .before .before in
+    let at-is-paired = c .before .before .before .before .before .before in
+    let b = start (after-size-u8 (after-size-marks at-is-paired)) in
     let a = b .args in
-    let own = c .before .before .before .before .before .before .before .before .before .before .before .before .before .before .before .before .before .before .before .before .before .before .before .before .before .before .before .before .before .key-number .ensures .0 in
+    let own = after-size-u8 (after-size-marks at-is-paired) .before .before .before .before .before .before .key-number .ensures .0 in
     let list = listed-under (a .self) (a .at) _ own (a .keys .now) (a .under .now) (a .count) (room c) (b .pre .1) in
     λ loads.
     record-done (a .self) loads (columns (a .statuses .now) (a .ids .now) (a .keys .now) (a .marks .now) (a .rows .now)) (a .at) (a .ps)
     _ _ _ _ _ _ _ (b .pre .0)
-    (c .before .before .before .before .before .before .before .before .before .before .before .before .before .before .before .before .before .before .before .before .before .before .before .before .size-u8-arg2 .given .0) (c .before .before .before .before .before .before .before .before .before .before .before .before .before .before .before .before .before .before .before .before .before .size-u32-arg2 .given .0) (c .before .before .before .before .before .before .before .before .before .before .before .before .before .before .before .before .before .before .size-u32-arg4 .given .0)
-    (c .before .before .before .before .before .before .before .before .before .before .before .before .before .before .before .size-marks-arg2 .given .0) (c .before .before .before .before .before .before .before .before .before .before .before .before .size-rows-arg2 .given .0)
-    own (c .before .before .before .before .before .before .before .before .before .before .before .before .before .before .before .before .before .before .before .before .before .before .before .before .before .before .before .first-counted .ensures) (c .before .before .before .before .before .before .before .before .before .before .before .before .before .before .before .before .before .before .before .before .before .before .before .before .before .before .steps-of .ensures) (c .status-of .ensures)
-    (c .before .before .before .before .before .before .is-paired .ensures _ _ list) (c .before .change-all .ensures _ _ list)
+    (after-size-u8 (after-size-marks at-is-paired) .before .size-u8-arg2 .given .0) (after-size-marks at-is-paired .before .before .before .before .before .before .before .size-u32-arg2 .given .0) (after-size-marks at-is-paired .before .before .before .before .size-u32-arg4 .given .0)
+    (after-size-marks at-is-paired .before .size-marks-arg2 .given .0) (at-is-paired .before .before .before .before .before .before .size-rows-arg2 .given .0)
+    own (after-size-u8 (after-size-marks at-is-paired) .before .before .before .before .first-counted .ensures) (after-size-u8 (after-size-marks at-is-paired) .before .before .before .steps-of .ensures) (c .status-of .ensures)
+    (at-is-paired .is-paired .ensures _ _ list) (c .before .change-all .ensures _ _ list)
 
 pub record-note-spec : {M : Type 1} → statement M
 record-note-spec =

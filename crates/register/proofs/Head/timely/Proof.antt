@@ -14,6 +14,16 @@ use borrow.Author.Needs.{needs}
 use Rattle.register.proofs.Head.timely.Statement.{statement}
 use Rattle.register.proofs.Head.timely.Tie as tie
 
+-- back from a context to an earlier one
+abbrev after-try-state : tie.After-in-contract2 → tie.After-try-state
+after-try-state c = c .before .before .before .before .before .before .before .before .before
+
+abbrev after-first-counted : tie.After-try-state → tie.After-first-counted
+after-first-counted c = c .before .before
+
+abbrev start : tie.After-first-counted → tie.Start
+start c = c .before .before .before .before .before .before .before
+
 cast-acquirer : tie.Need-cast-acquirer
 cast-acquirer c = search needs
 
@@ -70,18 +80,22 @@ try-state-requires-5 c κs = search needs
 
 returns : tie.Need-returns
 returns c =
-    let b = c .before .before .before .before .before .before .before .before .before .before .before .before .before .before .before .before .before .before .before in
+    let at-in-contract = c .before .before .before in
+    let at-steps-of = c .before .before .before .before .before in
+    let at-far-of = c .before .before .before .before .before .before .before in
+    let at-is-beyond = c .before .before .before .before .before .before .before .before in
+    let b = start (after-first-counted (after-try-state (c .before))) in
     let a = b .args in
     let l = head-entries (a .self) _ (b .good .0) in
     λ cols loads.
     then-tried _ _ _ (not (c .before .in-contract2 .result)) (state CederContract) (c .try-state5 .ensures)
-    (then-tried _ _ _ (not (c .before .before .before .in-contract .result)) (state AcquirerContract) (c .before .before .try-state4 .ensures)
-    (then-tried _ _ _ (not (ltb (c .before .before .before .before .before .before .before .before .before .before .before .before .first-counted .result) (c .before .before .before .before .before .steps-of .result))) (state NoStep) (c .before .before .before .before .try-state3 .ensures)
-    (then-tried _ _ _ (c .before .before .before .before .before .before .before .before .is-beyond .result) (state (c .before .before .before .before .before .before .before .far-of .result)) (c .before .before .before .before .before .before .try-state2 .ensures) (c .before .before .before .before .before .before .before .before .before .before .try-state .ensures))))
+    (then-tried _ _ _ (not (at-in-contract .in-contract .result)) (state AcquirerContract) (c .before .before .try-state4 .ensures)
+    (then-tried _ _ _ (not (ltb (after-first-counted (after-try-state (c .before)) .first-counted .result) (at-steps-of .steps-of .result))) (state NoStep) (c .before .before .before .before .try-state3 .ensures)
+    (then-tried _ _ _ (at-is-beyond .is-beyond .result) (state (at-far-of .far-of .result)) (c .before .before .before .before .before .before .try-state2 .ensures) (after-try-state (c .before) .try-state .ensures))))
     ∙ timely-is (a .self) cols loads (a .entry) (keyAt (a .at)) _ _ _ _ _ _
-    (c .before .before .before .before .before .before .before .before .is-beyond .ensures ∙ ap (λ k. ltb (a .self .clock .day + k) (a .at .day)) (c .before .before .before .before .before .before .before .before .before .reach-of .ensures)) (c .before .before .before .before .before .before .before .far-of .ensures)
-    (c .before .before .before .before .before .before .before .before .before .before .before .before .first-counted .ensures) (c .before .before .before .before .before .steps-of .ensures)
-    (contract-is (a .self) cols loads (a .at .acquirer) (a .at .day) (b .pre .1) l _ (c .before .before .before .in-contract .ensures))
+    (at-is-beyond .is-beyond .ensures ∙ ap (λ k. ltb (a .self .clock .day + k) (a .at .day)) (c .before .before .before .before .before .before .before .before .before .reach-of .ensures)) (at-far-of .far-of .ensures)
+    (after-first-counted (after-try-state (c .before)) .first-counted .ensures) (at-steps-of .steps-of .ensures)
+    (contract-is (a .self) cols loads (a .at .acquirer) (a .at .day) (b .pre .1) l _ (at-in-contract .in-contract .ensures))
     (contract-is (a .self) cols loads (a .at .ceder) (a .at .day) (b .pre .0) l _ (c .before .in-contract2 .ensures))
 
 pub timely-spec : {M : Type 1} → statement M
