@@ -1,7 +1,15 @@
-// Where a byte stands in a text.
+// The bytes of a text: one at a place, and where one stands.
 ghost use mathlib.Core.Path.{_≡_};
+ghost use lib.ListN.{getD};
 ghost use Rattle.lists.specs.Searches.{some, isByte, byteFrom};
 use crate::numbers::least_length;
+
+// The byte at a place, and 0 past the end.
+pub fn byte_at(s: &[u8], i: usize) -> u8
+    ensures { λ r. ⌜ r ≡ getD (now (s .entry)) i 0 ⌝ }
+{
+    if i < s.len() { s[i] } else { 0 }
+}
 
 // Whether a text has a byte. Each of its bytes is looked at, so that many are compared at once.
 pub fn has_byte(s: &[u8], b: u8) -> bool

@@ -6,7 +6,7 @@ use Prim.Native.Nat.{ℕ, suc, _-_, _<_, _≤_}
 use native.Mathlib.Omega.{arith}
 use lib.Dec.{ltb, eqb}
 use lib.ListN.{length, getD, take, drop, length-append, length-take, length-drop}
-use lib.Seq.{take-at, take-all, take-suc, drop-drop}
+use lib.Seq.{take-at, take-all, take-suc, drop-drop, length-take-le}
 use borrow.Author.Tests.{eqb-true, ltb-true, lt-ltb}
 use Rattle.lists.specs.Searches.{same}
 use Rattle.lists.proofs.Tests.{by-test, and-left, and-right, and-true}
@@ -19,6 +19,7 @@ use Rattle.notification.specs.Writing.{keyText, nameOf, headerOf, formed
 use Rattle.notification.specs.Reading.{dayNumber, keyIn, nameKey, headerKey, validKey, isName, isHeader}
 use Rattle.notification.specs.declared.Key.{Key}
 use Rattle.notification.proofs.Lengths.{date-length, formed-parts, name-between}
+use Rattle.notification.proofs.Stored.{filled-all, filled-length, six-five}
 
 -- ---- a category's six bytes
 
@@ -30,11 +31,8 @@ category-read c n =
     (λ t. let z = eqb-true (getD c 5 0) 0 t in
     let s : take 6 c ≡ take 5 c ++ (getD c 5 0 ∷ []) = take-suc c 5 0 h in
     let u : take 6 c ≡ take 5 c ++ (0 ∷ []) = rw z at s in
-    let l : length c ≤ 6 = omega arith in
-    let v : c ≡ take 5 c ++ (0 ∷ []) = sym (take-all 6 c l) ∙ u in
-    let m : length (take 5 c ++ (0 ∷ [])) ≤ 6 = omega (arith, ap length v) in
-    rw t (take-all 6 (take 5 c ++ (0 ∷ [])) m ∙ sym v))
-    (λ t. rw t (take-at c (0 ∷ []) 6 n))
+    rw t (six-five (take 5 c) (length-take-le 5 c (omega arith)) ∙ sym (sym (take-all 6 c (omega arith)) ∙ u)))
+    (λ t. rw t (filled-all 6 c n))
 
 -- ---- a key in its text, whatever byte parts it
 
@@ -93,12 +91,9 @@ pub record Named (name : List ℕ) : Type 0 where
   pub its-six : length (nameKey name .category) ≡ 6
   pub its-name : name ≡ nameOf (nameKey name)
 
-six-long : (name : List ℕ) → 56 ≤ length name → length (nameKey name .category) ≡ 6
+six-long : (name : List ℕ) → length (nameKey name .category) ≡ 6
 unfolding nameKey keyIn
-six-long name h =
-    let s = take (length name - 8) (drop 4 name) in
-    let l : 48 ≤ length s = simp (length-take, length-drop) (omega arith) in
-    simp (length-take 6 (drop 43 s ++ 0 ∷ []), length-append, length-drop 43 s) (omega arith)
+six-long name = filled-length 6 (drop 43 (take (length name - 8) (drop 4 name)))
 
 pub name-back : (name : List ℕ) → isName name ≡ true → Named name
 unfolding isName
@@ -111,6 +106,6 @@ name-back name e =
     record {
       its-form = f;
       its-day = ltb-true (k .day) 36525 (and-right (formed k) (ltb (k .day) 36525) (and-left v w e));
-      its-six = six-long name (omega (arith, name-between k f, ap length t));
+      its-six = six-long name;
       its-name = t;
     }

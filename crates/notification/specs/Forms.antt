@@ -22,9 +22,13 @@ isCode s = eqb (length s) 16 && every isCodeByte s
 unfoldable pub isCategory : List ℕ → Bool
 isCategory s = every isDigit (take 5 s) && (eqb (length s) 5 || eqb (length s) 6 && eqb (getD s 5 0) 67)
 
+-- entries in so many places, with 0 past them
+abbrev pub filled : ℕ → List ℕ → List ℕ
+filled n s = take n (s ++ replicate n 0)
+
 -- a category in six bytes, where one without C ends with a 0, and its text
 abbrev pub sixBytes : List ℕ → List ℕ
-sixBytes s = take 6 (s ++ 0 ∷ [])
+sixBytes s = filled 6 s
 
 unfoldable pub categoryText : List ℕ → List ℕ
 categoryText c = cond (eqb (getD c 5 0) 0) (take 5 c) c
@@ -45,9 +49,9 @@ digits p =
 abbrev pub places : ℕ
 places = 50
 
--- powers in their places, with 0 past them
+-- powers in their places
 unfoldable pub inPlaces : List ℕ → List ℕ
-inPlaces ps = take places (ps ++ replicate places 0)
+inPlaces ps = filled places ps
 
 -- every power is 0
 unfoldable pub allZero : List ℕ → Bool

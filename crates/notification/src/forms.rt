@@ -3,7 +3,8 @@ ghost use mathlib.Core.Path.{_≡_};
 ghost use Prim.Native.Nat.{_≤_};
 ghost use lib.ListN.{length, take};
 ghost use Rattle.lists.specs.Searches.{every};
-ghost use Rattle.notification.specs.Forms.{isDigit, isCodeByte, isCode, isCategory, sixBytes};
+ghost use Rattle.notification.specs.Forms.{isDigit, isCodeByte, isCode, isCategory, filled, sixBytes};
+use lists::bytes::byte_at;
 
 // Whether a byte is a digit.
 pub fn is_digit(b: u8) -> bool
@@ -56,27 +57,29 @@ pub fn is_category(s: &[u8]) -> bool
     false
 }
 
-// A code's sixteen bytes. Its length is asked for: who keeps a code has tested its form.
+// A code in sixteen bytes.
 pub fn sixteen(s: &[u8]) -> [u8; 16]
-    requires { ⌜ length (now s) ≡ 16 ⌝ }
-    ensures { λ r. ⌜ r ≡ now (s .entry) ⌝ }
+    ensures { λ r. ⌜ r ≡ filled 16 (now (s .entry)) ⌝ }
 {
     let mut code = [0u8; 16];
     let mut i: usize = 0;
     while i < 16 {
-        code[i] = s[i];
+        code[i] = byte_at(s, i);
         i += 1;
     }
     code
 }
 
-// A category's six bytes: 0 stands last where it has no C. Here too its form has been tested.
+// A category in six bytes: 0 stands last where it has no C.
 pub fn six(s: &[u8]) -> [u8; 6]
-    requires { ⌜ 5 ≤ length (now s) ⌝ }
     ensures { λ r. ⌜ r ≡ sixBytes (now (s .entry)) ⌝ }
 {
-    if s.len() == 5 {
-        return [s[0], s[1], s[2], s[3], s[4], 0];
-    }
-    [s[0], s[1], s[2], s[3], s[4], s[5]]
+    [
+        byte_at(s, 0),
+        byte_at(s, 1),
+        byte_at(s, 2),
+        byte_at(s, 3),
+        byte_at(s, 4),
+        byte_at(s, 5),
+    ]
 }

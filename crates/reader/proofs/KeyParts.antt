@@ -6,7 +6,7 @@ use Prim.Native.Nat.{ℕ, _+_, _-_, _<_, _≤_}
 use native.Mathlib.Omega.{arith}
 use lib.Dec.{ltb, eqb}
 use lib.ListN.{length, getD, take, drop, length-drop}
-use lib.Seq.{split-at, drop-drop, getD-drop, getD-at}
+use lib.Seq.{split-at, drop-drop, getD-drop, getD-at, length-take-le}
 use borrow.Author.Tests.{eqb-true, eq-eqb, ltb-true, lt-ltb, not-true, not-false}
 use Rattle.lists.specs.Searches.{same}
 use Rattle.lists.proofs.Tests.{by-test, true-false, and-left, and-right, and-true}
@@ -16,12 +16,12 @@ use Rattle.calendar.specs.Texts.{textOf, dayOf}
 use Rattle.calendar.specs.declared.texts.Day.{Day}
 use Rattle.calendar.specs.declared.texts.Day.the-variants.{Number, NoDay}
 use Rattle.calendar.proofs.TwoWays.{read-text}
-use Rattle.notification.specs.Forms.{isCode, isCategory, sixBytes, categoryText}
+use Rattle.notification.specs.Forms.{isCode, isCategory, filled, sixBytes, categoryText}
 use Rattle.notification.specs.Writing.{keyText, formed}
 use Rattle.notification.specs.Reading.{dayNumber, keyIn, validKey}
 use Rattle.reader.specs.Parts.{noKey, found, isKey, keyRead}
 use Rattle.notification.proofs.Lengths.{date-length, formed-parts, key-length}
-use Rattle.notification.proofs.Stored.{six-back}
+use Rattle.notification.proofs.Stored.{filled-all, six-back}
 
 -- ---- a date that was read
 
@@ -130,10 +130,10 @@ module _ (by : ℕ) (s : List ℕ) where
       pub read-no-day : dayOf (take 8 (drop 34 s)) ≡ NoDay → noKey ≡ keyRead by s
       read-no-day d = read-none (λ x. let l : dayNumber NoDay < 36525 = rw d at (x .a-day) in omega arith)
 
-      pub read-key : (n : ℕ) → dayOf (take 8 (drop 34 s)) ≡ Number n
+      key-found : (n : ℕ) → dayOf (take 8 (drop 34 s)) ≡ Number n
           → found (record { ceder = take 16 s; acquirer = take 16 (drop 17 s); category = sixBytes (drop 43 s); day = n }) ≡ keyRead by s
       unfolding keyRead keyIn
-      read-key n d =
+      key-found n d =
           let g = not-false (right a b c) e in
           let pab = and-left (parted && a && b) c g in
           let pa = and-left (parted && a) b pab in
@@ -154,3 +154,12 @@ module _ (by : ℕ) (s : List ℕ) where
             a-day = rw d (m .0);
           } in
           rw (parts-key x, d)
+
+      pub read-key : (n : ℕ) → dayOf (take 8 (drop 34 s)) ≡ Number n → (x y z : List ℕ) → x ≡ filled 16 (take 16 s) →
+          y ≡ filled 16 (take 16 (drop 17 s)) → z ≡ sixBytes (drop 43 s) →
+          found (record { ceder = x; acquirer = y; category = z; day = n }) ≡ keyRead by s
+      read-key n d x y z ex ey ez =
+          let m = length-drop 17 s in
+          let ceder : x ≡ take 16 s = ex ∙ filled-all 16 (take 16 s) (length-take-le 16 s (omega arith)) in
+          let acquirer : y ≡ take 16 (drop 17 s) = ey ∙ filled-all 16 (take 16 (drop 17 s)) (length-take-le 16 (drop 17 s) (omega arith)) in
+          (λ i. found (record { ceder = ceder i; acquirer = acquirer i; category = ez i; day = n })) ∙ key-found n d

@@ -16,6 +16,7 @@ use Rattle.notification.specs.Reading.{keyIn, validKey}
 use Rattle.reader.specs.Parts.{isKey}
 use Rattle.reader.specs.Walking.{startsWith, LineEnd}
 use Rattle.notification.proofs.Lengths.{formed-parts, header-length}
+use Rattle.notification.proofs.Stored.{filled-length}
 use Rattle.notification.proofs.Breaks.{header-in}
 use Rattle.reader.proofs.Starts.{starts-long}
 use Rattle.reader.proofs.Headers.{same-more, its-length, same-rest}
@@ -30,12 +31,8 @@ pub record Parted (s : List ℕ) : Type 0 where
   pub most : length s ≤ 49
   pub header-long : length (headerOf (keyIn s)) ≡ length s + 1
 
-six-long : (s : List ℕ) → 48 ≤ length s → length (keyIn s .category) ≡ 6
-unfolding keyIn
-six-long s l = simp (length-take 6 (drop 43 s ++ 0 ∷ []), length-append, length-drop 43 s) (omega arith)
-
 pub parted : (s : List ℕ) → isKey 95 s ≡ true → Parted s
-unfolding isKey
+unfolding isKey keyIn
 parted s y =
     let k = keyIn s in
     let v = validKey k in
@@ -47,7 +44,7 @@ parted s y =
     record {
       its-form = f;
       its-day = ltb-true (k .day) 36525 (and-right (formed k) (ltb (k .day) 36525) (and-left v w y));
-      its-six = six-long s (omega (arith, n, p .category-least));
+      its-six = filled-length 6 (drop 43 s);
       its-text = t;
       least = omega (arith, n, p .category-least);
       most = omega (arith, n, p .category-most);

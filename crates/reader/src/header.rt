@@ -10,7 +10,7 @@ ghost use Rattle.notification.specs.Reading.{keyIn};
 ghost use Rattle.reader.specs.Parts.{isKey, otherHeader};
 ghost use Rattle.reader.specs.Walking.{startsWith};
 use crate::keys::is_header;
-use crate::power::byte_at;
+use lists::bytes::byte_at;
 use refusals::InputRefusal;
 use refusals::Refusal;
 use refusals::Verdict;

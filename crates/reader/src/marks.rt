@@ -6,11 +6,11 @@ ghost use lib.ListN.{length, getD};
 ghost use Rattle.notification.specs.Forms.{places};
 ghost use Rattle.reader.specs.Walking.{sixAt, halfHours, Plain, LineSays};
 use crate::power::Power;
-use crate::power::byte_at;
 use crate::power::power_at;
 use crate::power::power_of;
 use calendar::PLAIN_STEPS;
 use calendar::turn_of;
+use lists::bytes::byte_at;
 use lists::numbers::byte;
 
 // The half hours since midnight that a boundary is labelled with.

@@ -3,18 +3,12 @@ ghost use mathlib.Core.Path.{_≡_};
 ghost use Prim.Native.Nat.{_+_, _≤_};
 ghost use lib.ListN.{length, getD};
 ghost use Rattle.reader.specs.Walking.{digitValue, leadingPower};
+use lists::bytes::byte_at;
 
 // What bytes begin with: a power and `;`, with how many bytes these are, or no power.
 pub enum Power {
     Is(u16, usize),
     Not,
-}
-
-// The byte at a place, and 0 past the end.
-pub(crate) fn byte_at(s: &[u8], i: usize) -> u8
-    ensures { λ r. ⌜ r ≡ getD (now (s .entry)) i 0 ⌝ }
-{
-    if i < s.len() { s[i] } else { 0 }
 }
 
 // What a digit stands for, and more than 9 where a byte is no digit.

@@ -149,20 +149,6 @@ module _ (h : Head) (cols : Columns) (loads : LoadColumns) (i n : ℕ) where
         let t : ltb i (length (categoriesIn (h .categories))) ≡ false = le-ltb i _ (omega arith) in
         rw t
 
--- six bytes are those of the text that they stand for
-pub six-of-text : (c : List ℕ) → length c ≡ 6 → c ≡ sixBytes (categoryText c)
-unfolding categoryText
-six-of-text c n =
-    let w : take 6 c ≡ c = take-all 6 c (omega arith) in
-    by-test (eqb (getD c 5 0) 0)
-    (λ t.
-    let z : getD c 5 0 ≡ 0 = eqb-true (getD c 5 0) 0 t in
-    let b : take 6 (take 5 c ++ 0 ∷ []) ≡ take 5 c ++ 0 ∷ [] =
-    take-all 6 (take 5 c ++ 0 ∷ []) (omega (arith, length-append (take 5 c) (0 ∷ []), length-take-le 5 c (omega arith))) in
-    let s : take 6 c ≡ take 5 c ++ (getD c 5 0 ∷ []) = take-suc c 5 0 (omega arith) in
-    rw (t, b) (sym w ∙ (s ∙ ap (λ x. take 5 c ++ (x ∷ [])) z)))
-    (λ t. rw t (sym (take-append-le 6 c (0 ∷ []) (omega arith) ∙ w)))
-
 -- ---- a record by its id
 
 -- a record that is found has a place in the columns

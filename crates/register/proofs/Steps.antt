@@ -16,7 +16,6 @@ use Rattle.refusals.specs.declared.Refusal.{Refusal}
 use Rattle.refusals.specs.declared.Verdict.{Verdict}
 use Rattle.refusals.specs.declared.Verdict.the-variants.{Pass, No}
 use Rattle.notification.specs.Forms.{isCodeByte, isCode, isCategory, sixBytes, inPlaces}
-use Rattle.notification.proofs.Lengths.{category-length}
 use Rattle.notification.proofs.Stored.{six-back}
 use Rattle.ledger.specs.Call.{Call, enrolActor, enrolCategory, load}
 use Rattle.ledger.specs.Ledger.{actorAt, categoryAt}
@@ -72,22 +71,22 @@ module _ (h : Head) (cols : Columns) (loads : LoadColumns) (code : List ℕ) (fi
 
 module _ (h : Head) (cols : Columns) (loads : LoadColumns) (text : List ℕ) (l : length (h .categories .entries) ≡ 4)
     (p : firstMet (categoryTests (view h cols loads) text) ≡ Pass) where
-  pub category-room : (isCategory text ≡ true) × (5 ≤ length text) × (h .categories .count < 4)
+  pub category-room : (isCategory text ≡ true) × (h .categories .count < 4)
   unfolding view
   category-room =
       let ok = category-ok (view h cols loads) text p in
       let r : length (categoriesIn (h .categories)) < 4 = ok .room in
-      (ok .form, category-length text (ok .form) .0, omega (arith, categories-many (h .categories) l))
+      (ok .form, omega (arith, categories-many (h .categories) l))
 
   pub category-done : (stored : List ℕ) (x : Categories) → stored ≡ sixBytes text → x ≡ moreCategories (h .categories) (record { text = stored }) →
       seen (lent (withCategories h x) cols loads) (Held (x .count)) ≡ does (lent h cols loads) (enrolCategory text)
   unfolding verdictOf view effect writes
   category-done stored x es ex =
       let room = category-room in
-      let n : h .categories .count + 1 ≡ suc (length (categoriesIn (h .categories))) = omega (arith, room .2, categories-many (h .categories) l) in
+      let n : h .categories .count + 1 ≡ suc (length (categoriesIn (h .categories))) = omega (arith, room .1, categories-many (h .categories) l) in
       rw (ex, es)
       (does-passed (lent h cols loads) _ (enrolCategory text) _ Pass (sym p) refl refl
-      (rw (category-more (h .categories) (record { text = sixBytes text }) l (room .2), six-back text (room .0), n)))
+      (rw (category-more (h .categories) (record { text = sixBytes text }) l (room .1), six-back text (room .0), n)))
 
 -- ---- one load more
 

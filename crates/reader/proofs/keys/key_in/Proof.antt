@@ -1,7 +1,7 @@
 -- Each way through the code is one of the tests of a text's parts.
 use borrow.Author.Needs.{needs}
 use mathlib.Core.Path.{sym, ap, _∙_}
-use Rattle.notification.specs.Forms.{isCategory}
+use Rattle.notification.specs.Forms.{isCategory, sixBytes}
 use Rattle.lists.proofs.Parts.{rest-all}
 use Rattle.reader.proofs.KeyParts.{read-short, read-long, read-wrong, read-no-day, read-key}
 use Rattle.reader.proofs.keys.key_in.Statement.{statement}
@@ -101,7 +101,9 @@ no-key-requires-4 : tie.Need-no-key-requires-4
 no-key-requires-4 c κs = search needs
 
 returns-4 : tie.Need-returns-4
-returns-4 c = cc (rest-all 43 (c .before .before .before .before .before .before .before .before .before .before .before .before .before .before .before .before .before .before .before .before .before .args .s .now), read-key (c .before .before .before .before .before .before .before .before .before .before .before .before .before .before .before .before .before .before .before .before .before .args .by) (c .before .before .before .before .before .before .before .before .before .before .before .before .before .before .before .before .before .before .before .before .before .args .s .now) _ _ _ (c .before .before .before .before .before .before .before .before .before .before .before .is-code .ensures) (c .before .before .before .before .before .before .before .before .before .before .is-code2 .ensures) (c .before .before .before .before .before .before .before .before .before .is-category .ensures ∙ ap isCategory (rest-all 43 (c .before .before .before .before .before .before .before .before .before .before .before .before .before .before .before .before .before .before .before .before .before .args .s .now))) (c .before .before .before .before .before .before .before .before .before .before .before .before .before .before .before .before .before .before .before .if1 .left) (c .before .before .before .before .before .before .before .before .before .before .before .before .before .before .before .before .before .before .if2 .left) (c .before .before .before .before .before .before .before .before .if3 .left) _ (sym (c .before .before .before .before .before .before .day-of .ensures) ∙ c .before .before .before .before .day .given .1))
+returns-4 c =
+    read-key (c .before .before .before .before .before .before .before .before .before .before .before .before .before .before .before .before .before .before .before .before .before .args .by) (c .before .before .before .before .before .before .before .before .before .before .before .before .before .before .before .before .before .before .before .before .before .args .s .now) _ _ _ (c .before .before .before .before .before .before .before .before .before .before .before .is-code .ensures) (c .before .before .before .before .before .before .before .before .before .before .is-code2 .ensures) (c .before .before .before .before .before .before .before .before .before .is-category .ensures ∙ ap isCategory (rest-all 43 (c .before .before .before .before .before .before .before .before .before .before .before .before .before .before .before .before .before .before .before .before .before .args .s .now))) (c .before .before .before .before .before .before .before .before .before .before .before .before .before .before .before .before .before .before .before .if1 .left) (c .before .before .before .before .before .before .before .before .before .before .before .before .before .before .before .before .before .before .if2 .left) (c .before .before .before .before .before .before .before .before .if3 .left) _ (sym (c .before .before .before .before .before .before .day-of .ensures) ∙ c .before .before .before .before .day .given .1)
+    _ _ _ (c .before .before .sixteen .ensures) (c .before .sixteen2 .ensures) (c .six .ensures ∙ ap sixBytes (rest-all 43 (c .before .before .before .before .before .before .before .before .before .before .before .before .before .before .before .before .before .before .before .before .before .args .s .now)))
 
 returns-5 : tie.Need-returns-5
 returns-5 c = c .no-key4 .ensures ∙ read-no-day (c .before .before .before .before .before .before .before .before .before .before .before .before .before .before .before .before .before .before .args .by) (c .before .before .before .before .before .before .before .before .before .before .before .before .before .before .before .before .before .before .args .s .now) _ _ _ (c .before .before .before .before .before .before .before .before .is-code .ensures) (c .before .before .before .before .before .before .before .is-code2 .ensures) (c .before .before .before .before .before .before .is-category .ensures ∙ ap isCategory (rest-all 43 (c .before .before .before .before .before .before .before .before .before .before .before .before .before .before .before .before .before .before .args .s .now))) (c .before .before .before .before .before .before .before .before .before .before .before .before .before .before .before .before .if1 .left) (c .before .before .before .before .before .before .before .before .before .before .before .before .before .before .before .if2 .left) (c .before .before .before .before .before .if3 .left) (sym (c .before .before .before .day-of .ensures) ∙ c .before .enum-told .given .1)

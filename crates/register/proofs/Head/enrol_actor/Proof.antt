@@ -2,6 +2,7 @@
 use mathlib.Core.Path.{_≡_, sym, _∙_, ap}
 use Prim.Native.Nat.{_<_}
 use lib.ListN.{length}
+use Rattle.notification.proofs.Stored.{filled-all}
 use Rattle.ledger.specs.Call.{enrolActor}
 use Rattle.ledger.specs.Calls.{verdictOf}
 use Rattle.register.specs.View.{lent}
@@ -45,7 +46,7 @@ enum-told : tie.Need-enum-told
 enum-told c = search needs
 
 sixteen-requires : tie.Need-sixteen-requires
-sixteen-requires c κs = room c .0
+sixteen-requires c κs = search needs
 
 with-requires : tie.Need-with-requires
 with-requires c κs = room (c .before .before) .1
@@ -58,7 +59,7 @@ returns-2 c =
     let a = b .args in
     λ columns loads.
     actor-done (a .self) columns loads (a .code .now) (a .first) (a .last) (head-entries (a .self) _ (b .good .0)) (sym (v .actor-verdict .ensures columns loads) ∙ t .enum-told .given .1)
-    _ (c .with .result) (c .before .before .sixteen .ensures) (c .with .ensures .1)
+    _ (c .with .result) (c .before .before .sixteen .ensures ∙ filled-all 16 (a .code .now) (room t .0)) (c .with .ensures .1)
 
 pub enrol-actor-spec : {M : Type 1} → statement M
 enrol-actor-spec =

@@ -1,7 +1,6 @@
 -- `Head::enrol_category` meets its contract: the verdict decides, and the head has one category more.
 use mathlib.Core.Path.{sym, _∙_, ap}
-use Prim.Native.Nat.{_<_, _≤_}
-use lib.ListN.{length}
+use Prim.Native.Nat.{_<_}
 use Rattle.ledger.specs.Call.{enrolCategory}
 use Rattle.ledger.specs.Calls.{verdictOf}
 use Rattle.tables.proofs.Entries.{categories-length}
@@ -14,16 +13,14 @@ use borrow.Author.Needs.{needs}
 use Rattle.register.proofs.Head.enrol_category.Statement.{statement}
 use Rattle.register.proofs.Head.enrol_category.Tie as tie
 
--- an accepted category has five bytes or six, and a place
-room : (c : tie.After-enum-told) →
-    let a = c .before .before .before .before .args in (5 ≤ length (a .text .now)) × (a .self .categories .count < 4)
+-- an accepted category has a place
+room : (c : tie.After-enum-told) → c .before .before .before .before .args .self .categories .count < 4
 room c =
     let v = c .before .before in
     let b = v .before .before in
     let a = b .args in
     let l = categories-length (a .self .categories) _ (b .good .0 .1 .1 .1 .1 .0) in
-    let k = category-room (a .self) noColumns noLoads (a .text .now) l (sym (v .category-verdict .ensures noColumns noLoads) ∙ c .enum-told .given .1) in
-    (k .1, k .2)
+    category-room (a .self) noColumns noLoads (a .text .now) l (sym (v .category-verdict .ensures noColumns noLoads) ∙ c .enum-told .given .1) .1
 
 category-verdict-requires : tie.Need-category-verdict-requires
 category-verdict-requires c κs = search needs
@@ -47,10 +44,10 @@ enum-told : tie.Need-enum-told
 enum-told c = search needs
 
 six-requires : tie.Need-six-requires
-six-requires c κs = room c .0
+six-requires c κs = search needs
 
 with-requires : tie.Need-with-requires
-with-requires c κs = room (c .before .before) .1
+with-requires c κs = room (c .before .before)
 
 returns-2 : tie.Need-returns-2
 returns-2 c =
