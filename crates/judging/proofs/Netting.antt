@@ -72,6 +72,11 @@ module _ (net : List ℕ) (gains gives : Bool) (mark row : List ℕ) (first unti
       ap (λ b. cond b (getD row s 0) 0) (and-false (leb (getD mark 1 0) s) (ltb s (getD mark 2 0)) (le-ltb s (getD mark 2 0) (omega arith))) in
       rw (z, nothing gives, nothing gains))
 
+  -- a record applied at all steps
+  pub applied-everywhere : (r : List ℕ) → until ≤ 50 → Applied net gains gives mark row 0 50 r → Applied net gains gives mark row first until r
+  applied-everywhere r few a =
+      record { fifty = a .fifty; each = λ s h l. a .each s (omega arith) (omega arith); low = a .low; high = a .high }
+
   -- a record in force at all of them
   module _ (from : getD mark 1 0 ≤ first) (till : until ≤ getD mark 2 0) where
     whole : (s : ℕ) → first ≤ s → s < until → spanned mark row s ≡ getD row s 0

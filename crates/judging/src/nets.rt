@@ -83,7 +83,7 @@ fn move_row(net: &mut [u32; 50], gains: bool, rows: &[[u16; 50]; 256], i: u32)
     }
 }
 
-// A net with a record's powers gained, or given, at the counted steps of its span.
+// A net with a record's powers gained, or given, at the steps of its span. Each step is looked at, so that many are added at once.
 fn apply_in_span(
     net: &mut [u32; 50],
     gains: bool,
@@ -91,17 +91,14 @@ fn apply_in_span(
     mark: [u8; 4],
     rows: &[[u16; 50]; 256],
     i: u32,
-    first: u32,
-    until: u32,
 )
-    requires { ⌜ (i < 256) × (until ≤ 50) × Between (now net) 65535 4294901760 ⌝ }
-    ensures { λ r. ⌜ Applied (now (net .entry)) gains gives mark (getD (now (rows .entry)) i []) first until
-        (now (net .exit)) ⌝ }
+    requires { ⌜ (i < 256) × Between (now net) 65535 4294901760 ⌝ }
+    ensures { λ r. ⌜ Applied (now (net .entry)) gains gives mark (getD (now (rows .entry)) i []) 0 50 (now (net .exit)) ⌝ }
 {
     let from = byte(mark[1]);
     let till = byte(mark[2]);
-    let mut s = first;
-    while s < until {
+    let mut s: u32 = 0;
+    while s < 50 {
         let p = within(rows[i as usize][s as usize], from, till, s);
         let more = net[s as usize] + only(gains, p);
         net[s as usize] = more - only(gives, p);
@@ -137,5 +134,5 @@ pub(crate) fn apply_record(
         move_row(net, gains, rows, i);
         return;
     }
-    apply_in_span(net, gains, gives, mark, rows, i, first, until)
+    apply_in_span(net, gains, gives, mark, rows, i)
 }

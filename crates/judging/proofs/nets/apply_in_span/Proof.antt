@@ -13,9 +13,9 @@ use Rattle.judging.proofs.nets.apply_in_span.Statement.{statement}
 use Rattle.judging.proofs.nets.apply_in_span.Tie as tie
 
 -- what is so of a step and the number there before step s is reached
-abbrev Applying : List ℕ → List ℕ → Bool → Bool → ℕ → ℕ → ℕ → ℕ → ℕ → ℕ → Type 0
-Applying net row gains gives from till first s j x =
-    (first ≤ j → j < s →
+abbrev Applying : List ℕ → List ℕ → Bool → Bool → ℕ → ℕ → ℕ → ℕ → ℕ → Type 0
+Applying net row gains gives from till s j x =
+    (j < s →
     x + cond gives (cond (leb from j && ltb j till) (getD row j 0) 0) 0
     ≡ getD net j 0 + cond gains (cond (leb from j && ltb j till) (getD row j 0) 0) 0)
     × (s ≤ j → x ≡ getD net j 0)
@@ -23,11 +23,11 @@ Applying net row gains gives from till first s j x =
     × (x ≤ getD net j 0 + 65535)
 
 abbrev Inv-loop : tie.InvT-loop
-Inv-loop net₀ gains gives rows i first until from till s₀ net s =
-    (first ≤ s) × (length net ≡ 50) × ((j : ℕ) → Applying net₀ (getD rows i []) gains gives from till first s j (getD net j 0))
+Inv-loop net₀ gains gives rows i from till s₀ net s =
+    (s ≤ 50) × (length net ≡ 50) × ((j : ℕ) → Applying net₀ (getD rows i []) gains gives from till s j (getD net j 0))
 
 abbrev μ-loop : tie.MeasureT-loop
-μ-loop net₀ gains gives rows i first until from till s₀ net s = until - s
+μ-loop net₀ gains gives rows i from till s₀ net s = 50 - s
 
 array-read-byte : tie.Need-array-read-byte Inv-loop μ-loop
 array-read-byte c = search needs
@@ -43,7 +43,7 @@ byte-requires-2 c κs = search needs
 
 loop-holds : tie.Need-loop-holds Inv-loop μ-loop
 loop-holds c =
-    (omega arith, c .before .before .pre .2 .fifty, (λ j. ((λ h l. absurd (omega arith)), (λ h. refl), omega arith, omega arith)))
+    (omega arith, c .before .before .pre .1 .fifty, (λ j. ((λ l. absurd (omega arith)), (λ h. refl), omega arith, omega arith)))
 
 cast-within : tie.Need-cast-within Inv-loop μ-loop
 cast-within c = search needs
@@ -79,7 +79,7 @@ add-more : tie.Need-add-more Inv-loop μ-loop
 add-more c =
     let b = c .before .before .before .before .before .loop in
     let pre = c .before .before .before .before .before .before .before .before .pre in
-    omega (arith, b .inv .2 (b .s) .1 (le-refl (b .s)), pre .2 .high (b .s) (omega arith))
+    omega (arith, b .inv .2 (b .s) .1 (le-refl (b .s)), pre .1 .high (b .s) (omega arith))
 
 only-requires-2 : tie.Need-only-requires-2 Inv-loop μ-loop
 only-requires-2 c κs = search needs
@@ -88,7 +88,7 @@ sub-net : tie.Need-sub-net Inv-loop μ-loop
 sub-net c =
     let b = c .before .before .before .before .before .before .loop in
     let pre = c .before .before .before .before .before .before .before .before .before .pre in
-    omega (arith, b .inv .2 (b .s) .1 (le-refl (b .s)), pre .2 .low (b .s) (omega arith))
+    omega (arith, b .inv .2 (b .s) .1 (le-refl (b .s)), pre .1 .low (b .s) (omega arith))
 
 cast-net : tie.Need-cast-net Inv-loop μ-loop
 cast-net c = search needs
@@ -118,15 +118,15 @@ loop-again c =
     let from = t .before .byte .result in
     let till = t .byte2 .result in
     let now = b .inv .2 (b .s) .1 (le-refl (b .s)) in
-    let low = pre .2 .low (b .s) (omega arith) in (
+    let low = pre .1 .low (b .s) (omega arith) in (
       omega arith,
       length-set (b .net) _ _ ∙ b .inv .1,
       store-each
-          (Applying (a .net .now) row (a .gains) (a .gives) from till (a .first) (b .s))
-          (Applying (a .net .now) row (a .gains) (a .gives) from till (a .first) (b .s + 1))
+          (Applying (a .net .now) row (a .gains) (a .gives) from till (b .s))
+          (Applying (a .net .now) row (a .gains) (a .gives) from till (b .s + 1))
           (b .net) (b .s) _ (omega arith) (b .inv .2)
-          (λ j x ne f. ((λ h l. f .0 h (omega arith)), (λ h. f .1 (omega arith)), f .2, f .3))
-          ((λ h l. omega arith), (λ h. absurd (omega arith)), omega arith, omega arith),
+          (λ j x ne f. ((λ l. f .0 (omega arith)), (λ h. f .1 (omega arith)), f .2, f .3))
+          ((λ l. omega arith), (λ h. absurd (omega arith)), omega arith, omega arith),
     )
 
 returns : tie.Need-returns Inv-loop μ-loop
@@ -135,7 +135,7 @@ returns c =
     let t = c .before .before in
     record {
       fifty = b .inv .1;
-      each = λ s h l. rw (← t .before .byte .ensures .0, ← t .byte2 .ensures .0) (b .inv .2 s .0 h (omega arith));
+      each = λ s h l. rw (← t .before .byte .ensures .0, ← t .byte2 .ensures .0) (b .inv .2 s .0 (omega arith));
       low = λ s h. b .inv .2 s .2;
       high = λ s h. b .inv .2 s .3;
     }

@@ -5,7 +5,7 @@ use lib.ListN.{getD}
 use lib.Dec.{leb}
 use borrow.Author.Tests.{leb-true}
 use Rattle.lists.proofs.Tests.{and-left, and-right}
-use Rattle.judging.proofs.Netting.{alike, differs, applied-same, applied-past, applied-whole}
+use Rattle.judging.proofs.Netting.{alike, differs, applied-same, applied-past, applied-everywhere, applied-whole}
 use borrow.Author.Needs.{needs}
 use Rattle.judging.proofs.nets.apply_record.Statement.{statement}
 use Rattle.judging.proofs.nets.apply_record.Tie as tie
@@ -52,7 +52,9 @@ apply-in-span-requires : tie.Need-apply-in-span-requires
 apply-in-span-requires c κs = search needs
 
 returns-4 : tie.Need-returns-4
-returns-4 c = search needs
+returns-4 c =
+    let a = c .before .before .before .before .before .before .before .args in
+    applied-everywhere (a .net .now) (a .gains) (a .gives) (a .t4) (getD (a .rows .now) (a .i) []) (a .first) (a .until) _ (c .before .before .before .before .before .before .before .pre .1) (c .apply-in-span .ensures)
 
 pub apply-record-spec : {M : Type 1} → statement M
 apply-record-spec =
