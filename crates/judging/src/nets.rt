@@ -83,7 +83,8 @@ fn move_row(net: &mut [u32; 50], gains: bool, rows: &[[u16; 50]; 256], i: u32)
     }
 }
 
-// A net with a record's powers gained, or given, at the steps of its span. Each step is looked at, so that many are added at once.
+// A net with a record's powers gained, or given, at the steps of its span. Each step is looked at, so that many are
+// moved at once.
 fn apply_in_span(
     net: &mut [u32; 50],
     gains: bool,
@@ -93,7 +94,8 @@ fn apply_in_span(
     i: u32,
 )
     requires { ⌜ (i < 256) × Between (now net) 65535 4294901760 ⌝ }
-    ensures { λ r. ⌜ Applied (now (net .entry)) gains gives mark (getD (now (rows .entry)) i []) 0 50 (now (net .exit)) ⌝ }
+    ensures { λ r. ⌜ Applied (now (net .entry)) gains gives mark (getD (now (rows .entry)) i []) 0 50
+        (now (net .exit)) ⌝ }
 {
     let from = byte(mark[1]);
     let till = byte(mark[2]);

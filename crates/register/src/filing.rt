@@ -149,7 +149,7 @@ impl Head {
             loads,
             entry,
             at,
-            ps,
+            &ps,
         );
         let verdict = judged.verdict;
         if let Verdict::No(r) = verdict {

@@ -222,7 +222,7 @@ impl Head {
         approved: &[u16; 64],
         loads: &[[u16; 50]; 64],
         at: Places,
-        ps: [u16; 50],
+        ps: &[u16; 50],
     ) -> Judged
         requires { ⌜ Judgeable self at × (length (now under) ≡ 256) ⌝ }
         ensures { λ r. ⌜ ((ids : List ℕ) →
@@ -232,7 +232,8 @@ impl Head {
             (loadColumns (now (numbers .entry)) (now (approved .entry)) (now (loads .entry)))) (keyAt at)
             ∷ stepTests (view self
             (columns (now (statuses .entry)) ids (now (keys .entry)) (now (marks .entry)) (now (rows .entry)))
-            (loadColumns (now (numbers .entry)) (now (approved .entry)) (now (loads .entry)))) (keyAt at) ps))
+            (loadColumns (now (numbers .entry)) (now (approved .entry)) (now (loads .entry)))) (keyAt at)
+            (now (ps .entry))))
             × (r .verdict ≡ Verdict.Pass →
             UnderListed (self .records) at (now (keys .entry)) (r .count) (now (under .exit))) ⌝ }
     {
@@ -265,7 +266,7 @@ impl Head {
         let verdict = step_verdict(
             &ceder,
             &acquirer,
-            &ps,
+            ps,
             approved_of(approved, ceders),
             approved_of(approved, acquirers),
             clock.first_counted(day),
@@ -290,7 +291,7 @@ impl Head {
         loads: &[[u16; 50]; 64],
         entry: Entry,
         at: Places,
-        ps: [u16; 50],
+        ps: &[u16; 50],
     ) -> Judged
         requires { ⌜ length (now under) ≡ 256 ⌝ }
         ensures { λ r. ⌜ ((ids : List ℕ) →
@@ -298,7 +299,7 @@ impl Head {
             (placeTests (view self
             (columns (now (statuses .entry)) ids (now (keys .entry)) (now (marks .entry)) (now (rows .entry)))
             (loadColumns (now (numbers .entry)) (now (approved .entry)) (now (loads .entry))))
-            entry (keyAt at) (at .submitter) ps))
+            entry (keyAt at) (at .submitter) (now (ps .entry))))
             × (r .verdict ≡ Verdict.Pass →
             UnderListed (self .records) at (now (keys .entry)) (r .count) (now (under .exit))) ⌝ }
     {

@@ -85,7 +85,7 @@ returns-3 c =
           let loads = loadColumns (a .numbers .now) (a .approved .now) (a .loads .now) in
           c .try-state .ensures
           ∙ ap (tried (c .before .before .steps-fit .result .verdict)) (full-is (a .self) cols loads _ (c .before .least .ensures))
-          ∙ with-36 (view (a .self) cols loads) (a .entry) (keyAt (a .at)) (a .at .submitter) (a .ps)
+          ∙ with-36 (view (a .self) cols loads) (a .entry) (keyAt (a .at)) (a .at .submitter) (a .ps .now)
           (sym (c .before .before .before .before .before .before .before .before .before .enrolled .ensures _ _) ∙ c .before .before .before .before .before .before .before .enum-told .given .1)
           (sym (c .before .before .before .before .before .before .timely .ensures _ _) ∙ c .before .before .before .before .enum-told2 .given .1)
           _ (c .before .before .steps-fit .ensures .0 ids)),
