@@ -2,21 +2,20 @@
 use mathlib.Core.Path.{_≡_, refl, sym, _∙_, ap}
 use mathlib.Core.Bool.{Bool, true, false, cond, _&&_}
 use mathlib.Core.List.{List, [], _∷_, _++_, append-nil, append-assoc}
-use Prim.Native.Nat.{ℕ, suc, _+_, _/_, _%_, _≤_, _<_, min}
+use Prim.Native.Nat.{ℕ, suc, _+_, _/_, _%_, _≤_, _<_}
 use native.Mathlib.Omega.{arith}
 use native.Mathlib.Numerals.{add-one}
 use native.Mathlib.Decide.{le-ind}
 use lib.Dec.{eqb, leb, ltb}
 use lib.ListN.{length, getD, drop, set, length-append}
 use lib.Seq.{drop-cons, set-at}
-use borrow.Author.Tests.{lt-leb, le-leb}
 use Rattle.lists.specs.Tests.{allBelow}
 use Rattle.lists.specs.Sums.{sumTo}
 use Rattle.ledger.specs.Ledger.{movedBy}
 use Rattle.tables.specs.Tables.{Columns, recordIn}
 use Rattle.tables.specs.Passing.{inMarket}
 use Rattle.tables.proofs.Listing.{through}
-use Rattle.recording.specs.Recording.{gainedAt, givenAt, partyIn, idsBelow, putInto}
+use Rattle.recording.specs.Recording.{gainedAt, givenAt, partyIn, idsBelow}
 
 -- ---- tests and sums
 
@@ -137,13 +136,3 @@ pub put-turn : (keys ids out old : List ℕ) (a i at : ℕ) → partyIn (getD ke
     set out at (getD ids i 0) ≡ idsBelow keys ids (i + 1) a ++ drop (at + 1) old
 put-turn keys ids out old a i at t e h o =
     rw (ids-add keys ids a i t) (put-next out old (idsBelow keys ids i a) at (getD ids i 0) e h o)
-
--- the ids of the records that are held, where a buffer has no room for them, and where it has
-module _ (keys ids out : List ℕ) (n a held count : ℕ) (eh : held ≡ min n 256) (ec : count ≡ length (idsBelow keys ids held a)) where
-  pub listed-short : length out < count →
-      (count ≡ length (idsBelow keys ids (min n 256) a)) × (out ≡ putInto (idsBelow keys ids (min n 256) a) out)
-  listed-short h = rw (← eh) (ec, rw (lt-leb (length (idsBelow keys ids held a)) (length out) (omega arith)))
-
-  pub listed-whole : (after : List ℕ) → count ≤ length out → after ≡ idsBelow keys ids held a ++ drop (length (idsBelow keys ids held a)) out →
-      (count ≡ length (idsBelow keys ids (min n 256) a)) × (after ≡ putInto (idsBelow keys ids (min n 256) a) out)
-  listed-whole after h e = rw (← eh) (ec, rw (le-leb (length (idsBelow keys ids held a)) (length out) (omega arith)) e)

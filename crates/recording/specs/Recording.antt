@@ -3,13 +3,15 @@ use mathlib.Core.Path.{_≡_}
 use mathlib.Core.Bool.{Bool, false, cond, _&&_, _||_}
 use mathlib.Core.List.{List, [], _∷_, _++_}
 use Prim.Native.Nat.{ℕ, zero, suc, _/_, _%_, _<_}
-use lib.Dec.{eqb, leb}
-use lib.ListN.{length, getD, set, drop}
+use lib.Dec.{eqb}
+use lib.ListN.{length, getD, set}
 use Rattle.calendar.specs.declared.clock.Clock.{Clock}
 use Rattle.ledger.specs.Ledger.{Rec, movedBy}
 use Rattle.ledger.specs.Filing.{answers, changed}
 use Rattle.tables.specs.Tables.{Columns, columns, keyFrom, recordIn}
 use Rattle.tables.specs.More.{putTo, withUntil}
+use Rattle.tables.specs.declared.loads.Found.{Found}
+use Rattle.tables.specs.declared.loads.Found.the-variants.{At, Nothing}
 
 -- some record below n is answered by a filing
 unfoldable pub pairsBelow : Columns → ℕ → ℕ → ℕ → List ℕ → Bool
@@ -64,6 +66,7 @@ unfoldable pub idsBelow : List ℕ → List ℕ → ℕ → ℕ → List ℕ
 idsBelow keys ids zero a = []
 idsBelow keys ids (suc n) a = idsBelow keys ids n a ++ cond (partyIn (getD keys n 0) a) (getD ids n 0 ∷ []) []
 
--- ids put into a buffer that has room for them, the rest of it untouched; one that has none stays as it was
-abbrev pub putInto : List ℕ → List ℕ → List ℕ
-putInto ids out = cond (leb (length ids) (length out)) (ids ++ drop (length ids) out) out
+-- where a record that was found stands, or 0
+abbrev pub foundAt : Found → ℕ
+foundAt (At i) = i
+foundAt Nothing = 0

@@ -1,39 +1,39 @@
 -- What the read-only calls answer: the ledger's tests by the numbers that the register finds, and what is told where they pass.
-use mathlib.Core.Path.{_≡_, sym, ap, _∙_}
-use mathlib.Core.Bool.{true, false, not}
+use mathlib.Core.Path.{_≡_, refl, sym, ap, _∙_}
+use mathlib.Core.Bool.{true, false, cond, not, true≢false}
 use mathlib.Core.List.{List, [], _∷_, _++_, map}
 use Prim.Native.Nat.{ℕ, _+_, _-_, _*_, _/_, _%_, _≤_, _<_, min}
 use native.Mathlib.Omega.{arith}
 use lib.Dec.{ltb, eqb}
 use lib.ListN.{length, getD, drop, take, replicate, length-append, length-take, length-map, List·getD-eq-default, List·getD-map}
 use lib.Seq.{take-all, take-suc, take-append-le, length-take-le, getD-take}
-use borrow.Author.Tests.{ltb-true, lt-ltb, le-ltb, lt-leb, le-leb, not-false, eqb-true}
+use borrow.Author.Tests.{ltb-true, ltb-false, lt-ltb, le-ltb, not-false, eqb-true}
 use Rattle.lists.specs.Sums.{sumTo}
 use Rattle.lists.proofs.Tests.{by-test}
 use Rattle.calendar.specs.Steps.{stepsOf}
 use Rattle.calendar.proofs.StepCounts.{steps-day, steps-small}
-use Rattle.refusals.specs.Tests.{state, firstMet}
+use Rattle.refusals.specs.Tests.{Test, state, firstMet}
 use Rattle.refusals.specs.declared.Refusal.{Refusal}
 use Rattle.refusals.specs.declared.Verdict.{Verdict}
 use Rattle.refusals.specs.declared.Verdict.the-variants.{Pass, No}
 use Rattle.refusals.specs.declared.StateRefusal.the-variants.{ActorUnknown, Full, NoRecord, NotAsker}
-use Rattle.refusals.proofs.Tests.{pass-all}
+use Rattle.refusals.proofs.Tests.{pass-all, triedAll, tried-first}
 use Rattle.notification.specs.Forms.{sixBytes, categoryText}
-use Rattle.ledger.specs.Ledger.{actorAt, categoryAt, engagement, gained, loaded}
+use Rattle.ledger.specs.Ledger.{Rec, actorAt, categoryAt, engagement, gained, loaded}
 use Rattle.ledger.specs.Filing.{nobody}
-use Rattle.ledger.specs.Asking.{askEngagement, engagementTests, engagedAt, askHistory, historyIn, historyTests, codeAt, categoryOf, askRecord, recordTests, shown, notShown}
+use Rattle.ledger.specs.Asking.{askEngagement, engagementTests, engagedAt, historyOf, historyTests, askHistory, historyIn, codeAt, categoryOf, party, noRecord, recordAt, recordTests, shown, notShown, askRecord}
 use Rattle.ledger.specs.declared.Engaged.the-variants as Asked
 use Rattle.ledger.specs.declared.Listed.{Listed}
 use Rattle.ledger.specs.declared.Listed.the-variants as Ids
 use Rattle.ledger.specs.declared.Shown.{Shown}
-use Rattle.tables.specs.Tables.{Columns, LoadColumns, actorsIn, categoriesIn, loadNumber, loadsIn, recordIn, recordsIn}
-use Rattle.tables.specs.Passing.{lastLoad, loadRow, lastBelow}
+use Rattle.tables.specs.Tables.{Columns, LoadColumns, downFrom, actorsIn, categoriesIn, loadNumber, loadsIn, recordIn, recordsIn}
+use Rattle.tables.specs.Passing.{isAt, lastLoad, loadRow, lastBelow}
 use Rattle.tables.specs.declared.categories.Category.{Category}
 use Rattle.tables.specs.declared.loads.Found.{Found}
 use Rattle.tables.specs.declared.loads.Found.the-variants.{At, Nothing}
 use Rattle.tables.proofs.Down.{down-length, last-below}
 use Rattle.tables.proofs.LoadTable.{loaded-row}
-use Rattle.recording.specs.Recording.{gainedAt, givenAt, idsBelow, putInto, partyIn}
+use Rattle.recording.specs.Recording.{gainedAt, givenAt, idsBelow, foundAt, partyIn}
 use Rattle.recording.proofs.Views.{acquired-view, ceded-view, ids-view, found-view, missing-view}
 use Rattle.register.specs.declared.Head.{Head}
 use Rattle.register.specs.View.{view}
@@ -80,35 +80,43 @@ engaged-by h cols loads a z day s number k w gain give f row ha hz en ef er ew e
 
 -- ---- history
 
-module _ (h : Head) (cols : Columns) (loads : LoadColumns) (actor buffer : List ℕ) (n a : ℕ)
-    (en : length (actorsIn (h .actors)) ≡ n) (ea : a ≡ actorAt (actorsIn (h .actors)) actor) where
+abbrev pub historyTried : ℕ → ℕ → ℕ → ℕ → List Test
+historyTried a n room count = (not (ltb a n), state ActorUnknown) ∷ (ltb room count, state Full) ∷ []
+
+module _ (h : Head) (cols : Columns) (loads : LoadColumns) (actor buffer : List ℕ) (n a k count : ℕ)
+    (en : length (actorsIn (h .actors)) ≡ n) (ea : a ≡ actorAt (actorsIn (h .actors)) actor) (ek : k ≡ min (h .records) 256)
+    (ec : count ≡ length (idsBelow (cols .keys) (cols .ids) k a))
+    (v : Verdict) (ev : v ≡ triedAll Pass (historyTried a n (length buffer) count)) where
   -- an answer, and what the buffer holds afterwards, are the ledger's
   abbrev ListedBy : Listed → List ℕ → Type 0
   ListedBy r after =
       (r ≡ askHistory (view h cols loads) actor (length buffer)) × (after ≡ historyIn (view h cols loads) actor buffer)
 
-  pub listed-nobody : not (ltb a n) ≡ true → ListedBy (Ids.Refused (state ActorUnknown)) buffer
-  unfolding askHistory historyIn historyTests view
-  listed-nobody t = (rw (en, ← ea, t), rw (en, ← ea, t))
-
   abbrev listed : List ℕ
-  listed = idsBelow (cols .keys) (cols .ids) (min (h .records) 256) a
+  listed = idsBelow (cols .keys) (cols .ids) k a
 
-  module _ (count : ℕ) (after : List ℕ) (t : not (ltb a n) ≡ false) (ec : count ≡ length listed) (ep : after ≡ putInto listed buffer) where
-    pub listed-full : length buffer < count → ListedBy (Ids.Refused (state Full)) after
-    unfolding askHistory historyIn historyTests view recordsIn
-    listed-full l =
-        let u = lt-ltb (length buffer) count l in
-        let kept : after ≡ buffer = ep ∙ rw (lt-leb (length listed) (length buffer) (omega arith)) in
-        (rw (en, ← ea, t, ids-view cols (min (h .records) 256) a, ← ec, u), kept ∙ rw (en, ← ea, t, ids-view cols (min (h .records) 256) a, ← ec, u))
+  history-ids : historyOf (view h cols loads) actor ≡ listed
+  unfolding view recordsIn
+  history-ids = rw (← ea, ← ek) (ids-view cols k a)
 
-    pub listed-all : count ≤ length buffer → ListedBy (Ids.Count count) after
-    unfolding askHistory historyIn historyTests view recordsIn
-    listed-all l =
-        let u = le-ltb (length buffer) count l in
-        let put : after ≡ listed ++ drop count buffer =
-        ep ∙ rw (le-leb (length listed) (length buffer) (omega arith), ec) in
-        (rw (en, ← ea, t, ids-view cols (min (h .records) 256) a, ← ec, u), rw (en, ← ea, t, ids-view cols (min (h .records) 256) a, ← ec, u) put)
+  history-is : v ≡ firstMet (historyTests (view h cols loads) actor (length buffer))
+  unfolding view historyTests
+  history-is = ev ∙ tried-first (historyTried a n (length buffer) count) ∙ rw (history-ids, en, ← ea, ← ec)
+
+  pub listed-refused : (r : Refusal) → v ≡ No r → ListedBy (Ids.Refused r) buffer
+  unfolding askHistory historyIn
+  listed-refused r e = (rw (← history-is, e), rw (← history-is, e))
+
+  module _ (pass : v ≡ Pass) where
+    pub listed-room : length listed ≤ length buffer
+    listed-room =
+        let ts = historyTried a n (length buffer) count in
+        let f = pass-all ts (sym (tried-first ts) ∙ sym ev ∙ pass) in
+        omega (arith, ltb-false (length buffer) count (f .1 .0))
+
+    pub listed-all : (after : List ℕ) → after ≡ listed ++ drop (length listed) buffer → ListedBy (Ids.Count count) after
+    unfolding askHistory historyIn
+    listed-all after e = (rw (← history-is, pass, history-ids, ← ec), rw (← history-is, pass, history-ids) e)
 
 -- ---- the codes and the category of a record
 
@@ -152,43 +160,57 @@ module _ (h : Head) (cols : Columns) (loads : LoadColumns) (i n : ℕ) where
 -- ---- a record by its id
 
 -- a record that is found has a place in the columns
-pub found-below : (ids : List ℕ) (id n i : ℕ) (f : Found) → f ≡ lastBelow (λ j. eqb (getD ids j 0) id) (min n 256) → f ≡ At i → i < 256
-found-below ids id n i f ef e =
-    let b : i < min n 256 = last-below (λ j. eqb (getD ids j 0) id) (min n 256) i (sym ef ∙ e) .0 in
+pub found-below : (ids : List ℕ) (id n : ℕ) (f : Found) → f ≡ lastBelow (λ j. eqb (getD ids j 0) id) (min n 256) → foundAt f < 256
+found-below ids id n (At i) e =
+    let b : i < min n 256 = last-below (λ j. eqb (getD ids j 0) id) (min n 256) i (sym e) .0 in
     omega arith
+found-below ids id n Nothing e = omega arith
 
-module _ (h : Head) (cols : Columns) (loads : LoadColumns) (asker : List ℕ) (id n a : ℕ)
-    (en : length (actorsIn (h .actors)) ≡ n) (ea : a ≡ actorAt (actorsIn (h .actors)) asker) where
-  pub shown-nobody : not (ltb a n) ≡ true → notShown (state ActorUnknown) ≡ askRecord (view h cols loads) asker id
-  unfolding askRecord recordTests view
-  shown-nobody t = rw (en, ← ea, t)
+-- 40 and 41, by what is found, after 22
+abbrev foundTried : Columns → ℕ → Found → List Test
+foundTried cols a f = (not (isAt f), state NoRecord) ∷ (not (partyIn (getD (cols .keys) (foundAt f) 0) a), state NotAsker) ∷ []
 
+abbrev pub recordTried : Columns → ℕ → ℕ → Found → List Test
+recordTried cols a n f = (not (ltb a n), state ActorUnknown) ∷ foundTried cols a f
+
+module _ (h : Head) (cols : Columns) (loads : LoadColumns) (asker : List ℕ) (id n a : ℕ) (f : Found)
+    (en : length (actorsIn (h .actors)) ≡ n) (ea : a ≡ actorAt (actorsIn (h .actors)) asker)
+    (ef : f ≡ lastBelow (λ j. eqb (getD (cols .ids) j 0) id) (min (h .records) 256)) where
   abbrev k : ℕ
   k = min (h .records) 256
 
-  module _ (f : Found) (t : not (ltb a n) ≡ false) (ef : f ≡ lastBelow (λ j. eqb (getD (cols .ids) j 0) id) k) where
-    pub shown-none : f ≡ Nothing → notShown (state NoRecord) ≡ askRecord (view h cols loads) asker id
-    unfolding askRecord recordTests view recordsIn
-    shown-none e =
-        let p = missing-view cols k id (sym ef ∙ e) in
-        let u : ltb k k ≡ false = le-ltb k k (omega arith) in
-        rw (en, ← ea, t, p, down-length (recordIn cols) k, u)
+  abbrev held : List Rec
+  held = downFrom (recordIn cols) k
 
-    module _ (i : ℕ) (e : f ≡ At i) where
-      pub shown-other : partyIn (getD (cols .keys) i 0) a ≡ false → notShown (state NotAsker) ≡ askRecord (view h cols loads) asker id
-      unfolding askRecord recordTests view recordsIn
-      shown-other v =
-          let p = found-view cols k id i (sym ef ∙ e) in
-          let u = lt-ltb _ k (p .0) in
-          rw (en, ← ea, t, down-length (recordIn cols) k, u, p .1, v)
+  found-is : (g : Found) → f ≡ g →
+      firstMet (foundTried cols a g)
+      ≡ firstMet ((not (ltb (recordAt held id) (length held)), state NoRecord) ∷ (not (party a (getD held (recordAt held id) noRecord)), state NotAsker) ∷ [])
+  found-is (At i) e =
+      let p = found-view cols k id i (sym ef ∙ e) in
+      rw (down-length (recordIn cols) k, lt-ltb _ k (p .0), p .1)
+  found-is Nothing e =
+      rw (missing-view cols k id (sym ef ∙ e), down-length (recordIn cols) k, le-ltb k k (omega arith))
 
-      pub shown-own : (r : Shown) → partyIn (getD (cols .keys) i 0) a ≡ true → r ≡ shown (view h cols loads) (recordIn cols i) →
-          r ≡ askRecord (view h cols loads) asker id
-      unfolding askRecord recordTests view recordsIn
-      shown-own r v s =
-          let p = found-view cols k id i (sym ef ∙ e) in
-          let u = lt-ltb _ k (p .0) in
-          rw (en, ← ea, t, down-length (recordIn cols) k, u, p .1, v) s
+  module _ (v : Verdict) (ev : v ≡ triedAll Pass (recordTried cols a n f)) where
+    record-is : v ≡ firstMet (recordTests (view h cols loads) asker id)
+    unfolding recordTests view recordsIn
+    record-is = ev ∙ tried-first (recordTried cols a n f) ∙ rw (en, ← ea) (ap (cond (not (ltb a n)) (No (state ActorUnknown))) (found-is f refl))
+
+    pub shown-refused : (r : Refusal) → v ≡ No r → notShown r ≡ askRecord (view h cols loads) asker id
+    unfolding askRecord
+    shown-refused r e = rw (← record-is, e)
+
+    module _ (pass : v ≡ Pass) where
+      found-held : (g : Found) → f ≡ g → not (isAt g) ≡ false → getD held (recordAt held id) noRecord ≡ recordIn cols (foundAt g)
+      found-held (At i) e t = found-view cols k id i (sym ef ∙ e) .1
+      found-held Nothing e t = absurd (true≢false t)
+
+      pub shown-found : (r : Shown) → r ≡ shown (view h cols loads) (recordIn cols (foundAt f)) → r ≡ askRecord (view h cols loads) asker id
+      unfolding askRecord view recordsIn
+      shown-found r e =
+          let ts = recordTried cols a n f in
+          let t = pass-all ts (sym (tried-first ts) ∙ sym ev ∙ pass) in
+          rw (← record-is, pass, found-held f refl (t .1 .0)) e
 
 -- ---- what a record shows
 

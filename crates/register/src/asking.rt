@@ -3,10 +3,11 @@ ghost use mathlib.Core.Path.{_≡_};
 ghost use mathlib.Core.List.{List};
 ghost use Prim.Native.Nat.{ℕ, _-_, _<_};
 ghost use lib.ListN.{length};
-ghost use Rattle.refusals.specs.Tests.{state, firstMet};
+ghost use Rattle.refusals.specs.Tests.{firstMet};
 ghost use Rattle.notification.specs.Forms.{sixBytes, categoryText};
 ghost use Rattle.ledger.specs.Ledger.{actorAt, categoryAt};
-ghost use Rattle.ledger.specs.Asking.{engagementTests, askEngagement, codeAt, categoryOf, notShown, shown, askRecord, askHistory, historyIn};
+ghost use Rattle.ledger.specs.Asking.{engagementTests, askEngagement, codeAt, categoryOf, notShown, shown, askRecord};
+ghost use Rattle.ledger.specs.Asking.{askHistory, historyIn};
 ghost use Rattle.tables.specs.Tables.{Columns, LoadColumns, columns, loadColumns, actorsIn, categoriesIn, recordIn};
 ghost use Rattle.register.specs.View.{view};
 use crate::Head;
@@ -20,19 +21,20 @@ use lists::numbers::wide;
 use notification::Key;
 use notification::Notification;
 use recording::adding::totals_of;
+use recording::listing::count_ids;
 use recording::listing::find_id;
+use recording::listing::found_at;
 use recording::listing::is_party;
-use recording::listing::list_ids;
+use recording::listing::put_ids;
 use refusals::InputRefusal;
 use refusals::Refusal;
 use refusals::StateRefusal;
 use refusals::Verdict;
-use refusals::trying::by_state;
 use refusals::trying::try_input;
 use refusals::trying::try_state;
 use tables::actors::ACTORS;
 use tables::categories::CATEGORIES;
-use tables::loads::Found;
+use tables::loads::is_at;
 use tables::loads::last_of;
 use tables::loads::load_number;
 use tables::loads::row_at;
@@ -50,6 +52,31 @@ fn six_of(text: [u8; 6]) -> [u8; 6]
     ensures { λ r. ⌜ r ≡ sixBytes (categoryText text) ⌝ }
 {
     text
+}
+
+// What a record call that is refused shows.
+fn not_shown(f: Refusal) -> Shown
+    ensures { λ r. ⌜ r ≡ notShown f ⌝ }
+{
+    let key = Key {
+        ceder: [0; 16],
+        acquirer: [0; 16],
+        category: [0; 6],
+        day: 0,
+    };
+    let blank = Notification {
+        key: key,
+        steps: 0,
+        powers: [0; 50],
+    };
+    Shown {
+        verdict: Verdict::No(f),
+        submitter: [0; 16],
+        notification: blank,
+        status: 0,
+        from: 0,
+        until: 0,
+    }
 }
 
 impl Head {
@@ -134,31 +161,6 @@ impl Head {
         [0; 6]
     }
 
-    // What a record call that is refused shows.
-    fn not_shown(self, f: StateRefusal) -> Shown
-        ensures { λ r. ⌜ r ≡ notShown (state f) ⌝ }
-    {
-        let key = Key {
-            ceder: [0; 16],
-            acquirer: [0; 16],
-            category: [0; 6],
-            day: 0,
-        };
-        let blank = Notification {
-            key: key,
-            steps: 0,
-            powers: [0; 50],
-        };
-        Shown {
-            verdict: Verdict::No(Refusal::State(f, 0)),
-            submitter: [0; 16],
-            notification: blank,
-            status: 0,
-            from: 0,
-            until: 0,
-        }
-    }
-
     // The record at a place, with its codes and its category.
     fn shown_at(
         self,
@@ -201,7 +203,7 @@ impl Head {
         }
     }
 
-    // A record by its id, for an actor who is ceder or acquirer of it.
+    // A record by its id, for an actor who is ceder or acquirer of it: 22, 40, 41.
     pub fn record(
         self,
         statuses: &[u8; 256],
@@ -220,22 +222,23 @@ impl Head {
     {
         let actors = self.actors;
         let a = actors.place(asker);
-        if !(a < least(actors.count, ACTORS)) {
-            return self.not_shown(StateRefusal::ActorUnknown);
-        }
         let found = find_id(ids, self.records, id);
-        match found {
-            Found::At(i) => {
-                if !is_party(keys[i as usize], a) {
-                    return self.not_shown(StateRefusal::NotAsker);
-                }
-                self.shown_at(statuses, keys, marks, rows, i)
-            }
-            Found::Nothing => self.not_shown(StateRefusal::NoRecord),
+        let i = found_at(found);
+        let v = try_state(
+            Verdict::Pass,
+            !(a < least(actors.count, ACTORS)),
+            StateRefusal::ActorUnknown,
+        );
+        let v = try_state(v, !is_at(found), StateRefusal::NoRecord);
+        let v = try_state(v, !is_party(keys[i as usize], a), StateRefusal::NotAsker);
+        if let Verdict::No(r) = v {
+            return not_shown(r);
         }
+        self.shown_at(statuses, keys, marks, rows, i)
     }
 
-    // An actor's history: the ids of all records that it is a party to, into a lent buffer, and how many they are.
+    // An actor's history: the ids of all records that it is a party to, into a lent buffer, and how many they are:
+    // 22, 36.
     pub fn history(
         self,
         ids: &[u32; 256],
@@ -252,13 +255,18 @@ impl Head {
     {
         let actors = self.actors;
         let a = actors.place(actor);
-        if !(a < least(actors.count, ACTORS)) {
-            return Listed::Refused(by_state(StateRefusal::ActorUnknown));
+        let n = least(self.records, RECORDS);
+        let count = count_ids(keys, n, a);
+        let v = try_state(
+            Verdict::Pass,
+            !(a < least(actors.count, ACTORS)),
+            StateRefusal::ActorUnknown,
+        );
+        let v = try_state(v, out.len() < count as usize, StateRefusal::Full);
+        if let Verdict::No(r) = v {
+            return Listed::Refused(r);
         }
-        let count = list_ids(keys, ids, self.records, a, &mut *out);
-        if out.len() < count as usize {
-            return Listed::Refused(by_state(StateRefusal::Full));
-        }
+        put_ids(keys, ids, n, a, out);
         Listed::Count(count)
     }
 }

@@ -1,10 +1,17 @@
 -- `Head::history` meets its contract: the two tests, then the ids of the records below the count.
-use mathlib.Core.Path.{sym, ap, _∙_}
+use mathlib.Core.Path.{_≡_, sym, _∙_}
+use mathlib.Core.List.{[]}
 use native.Mathlib.Omega.{arith}
-use Rattle.ledger.specs.declared.Listed.the-variants.{Refused}
-use Rattle.tables.specs.Tables.{columns}
+use lib.Dec.{ltb}
+use lib.ListN.{length}
+use Rattle.refusals.specs.Tests.{state}
+use Rattle.refusals.specs.declared.StateRefusal.the-variants.{Full}
+use Rattle.refusals.specs.declared.Verdict.the-variants.{Pass}
+use Rattle.refusals.proofs.Tests.{triedAll, then-tried}
+use Rattle.tables.specs.Tables.{columns, actorsIn}
 use Rattle.register.proofs.Parties.{head-actors}
-use Rattle.register.proofs.Answers.{listed-nobody, listed-full, listed-all}
+use Rattle.register.proofs.CallTests.{noLoads}
+use Rattle.register.proofs.Answers.{historyTried, listed-refused, listed-room, listed-all}
 use borrow.Author.Needs.{needs}
 use Rattle.register.proofs.Head.history.Statement.{statement}
 use Rattle.register.proofs.Head.history.Tie as tie
@@ -15,57 +22,66 @@ place-requires c κs = search needs
 least-requires : tie.Need-least-requires
 least-requires c κs = search needs
 
-by-state-requires : tie.Need-by-state-requires
-by-state-requires c κs = search needs
+count-ids-requires : tie.Need-count-ids-requires
+count-ids-requires c κs = search needs
+
+least-requires-2 : tie.Need-least-requires-2
+least-requires-2 c κs = search needs
+
+try-state-requires : tie.Need-try-state-requires
+try-state-requires c κs = search needs
+
+cast-try-state : tie.Need-cast-try-state
+cast-try-state c = search needs
+
+try-state-requires-2 : tie.Need-try-state-requires-2
+try-state-requires-2 c κs = search needs
+
+enum-known-v : tie.Need-enum-known-v
+enum-known-v c = search needs
+
+-- how many actors there are, and what is tried
+module _ (c : tie.After-try-state2) where
+  abbrev start : tie.Start
+  start = c .before .before .before .before .before .before .before .before .before
+
+  actors : length (actorsIn (start .args .self .actors)) ≡ c .before .before .least2 .result
+  actors = head-actors (start .args .self) _ (start .good .0) ∙ sym (c .before .before .least2 .ensures)
+
+  tested : c .try-state2 .result
+      ≡ triedAll Pass (historyTried (c .before .before .before .before .before .place .result) (c .before .before .least2 .result) (length (start .args .out .now)) (c .before .before .before .count-ids .result))
+  tested =
+      then-tried _ _ _ (ltb (length (start .args .out .now)) (c .before .before .before .count-ids .result)) (state Full) (c .try-state2 .ensures) (c .before .try-state .ensures)
 
 returns : tie.Need-returns
 returns c statuses marks rows loads =
-    let p = c .before .before .before in
-    let b = p .before .before .before .before in
-    let a = b .args in
-    let r =
-    listed-nobody (a .self) (columns statuses (a .ids .now) (a .keys .now) marks rows) loads (a .actor .now) (a .out .now) _ _
-    (head-actors (a .self) _ (b .good .0) ∙ sym (c .before .before .least .ensures)) (p .place .ensures) (c .before .if1 .taken) in
-    (ap Refused (c .by-state .ensures) ∙ r .0, r .1)
+    let t = c .before .before .before in
+    let a = start t .args in
+    listed-refused (a .self) (columns statuses (a .ids .now) (a .keys .now) marks rows) loads (a .actor .now) (a .out .now) _ _ _ _
+    (actors t) (t .before .before .before .before .before .place .ensures) (t .before .before .before .before .least .ensures) (t .before .before .before .count-ids .ensures .0 (a .ids .now)) _ (tested t) _ (c .before .v .given .1)
 
-list-ids-requires : tie.Need-list-ids-requires
-list-ids-requires c κs = search needs
+enum-told : tie.Need-enum-told
+enum-told c = search needs
 
-cast-if2 : tie.Need-cast-if2
-cast-if2 c = search needs
-
-by-state-requires-2 : tie.Need-by-state-requires-2
-by-state-requires-2 c κs = search needs
+put-ids-requires : tie.Need-put-ids-requires
+put-ids-requires c κs =
+    let t = c .before .before .before in
+    let a = start t .args in (
+      omega (arith, t .before .before .before .before .least .ensures),
+      listed-room (a .self) (columns [] (a .ids .now) (a .keys .now) [] []) noLoads (a .actor .now) (a .out .now) _ _ _ _
+          (actors t) (t .before .before .before .before .before .place .ensures) (t .before .before .before .before .least .ensures) (t .before .before .before .count-ids .ensures .0 (a .ids .now)) _ (tested t) (c .before .enum-told .given .1),
+    )
 
 same-length : tie.Need-same-length
 same-length c = search needs
 
 returns-2 : tie.Need-returns-2
 returns-2 c statuses marks rows loads =
-    let l = c .before .before .before .before in
-    let t = l .before .before in
-    let p = t .before .before in
-    let b = p .before .before .before .before in
-    let a = b .args in
-    let r =
-    listed-full (a .self) (columns statuses (a .ids .now) (a .keys .now) marks rows) loads (a .actor .now) (a .out .now) _ _
-    (head-actors (a .self) _ (b .good .0) ∙ sym (t .before .least .ensures)) (p .place .ensures)
-    _ _ (t .if1 .left) (l .list-ids .ensures .0) (l .list-ids .ensures .1) (omega (arith, c .before .if2 .taken, c .before .before .before .out .given)) in
-    (ap Refused (c .by-state2 .ensures) ∙ r .0, r .1)
-
-same-length-2 : tie.Need-same-length-2
-same-length-2 c = search needs
-
-returns-3 : tie.Need-returns-3
-returns-3 c statuses marks rows loads =
-    let l = c .before .before .before in
-    let t = l .before .before in
-    let p = t .before .before in
-    let b = p .before .before .before .before in
-    let a = b .args in
-    listed-all (a .self) (columns statuses (a .ids .now) (a .keys .now) marks rows) loads (a .actor .now) (a .out .now) _ _
-    (head-actors (a .self) _ (b .good .0) ∙ sym (t .before .least .ensures)) (p .place .ensures)
-    _ _ (t .if1 .left) (l .list-ids .ensures .0) (l .list-ids .ensures .1) (omega (arith, c .if2 .left, c .before .before .out .given))
+    let t = c .before .before .before .before .before .before in
+    let a = start t .args in
+    listed-all (a .self) (columns statuses (a .ids .now) (a .keys .now) marks rows) loads (a .actor .now) (a .out .now) _ _ _ _
+    (actors t) (t .before .before .before .before .before .place .ensures) (t .before .before .before .before .least .ensures) (t .before .before .before .count-ids .ensures .0 (a .ids .now)) _ (tested t) (c .before .before .before .before .enum-told .given .1)
+    _ (c .before .before .put-ids .ensures)
 
 pub history-spec : {M : Type 1} → statement M
 history-spec =
@@ -73,12 +89,14 @@ history-spec =
     (tie.spec
     place-requires
     least-requires
-    by-state-requires
+    count-ids-requires
+    least-requires-2
+    try-state-requires
+    cast-try-state
+    try-state-requires-2
+    enum-known-v
     returns
-    list-ids-requires
-    cast-if2
-    by-state-requires-2
+    enum-told
+    put-ids-requires
     same-length
-    returns-2
-    same-length-2
-    returns-3)
+    returns-2)
