@@ -13,6 +13,13 @@ use borrow.Author.Needs.{needs}
 use Rattle.register.proofs.Head.steps_fit.Statement.{statement}
 use Rattle.register.proofs.Head.steps_fit.Tie as tie
 
+-- back from a context to an earlier one
+abbrev after-last-of2 : tie.After-approved-of2 → tie.After-last-of2
+after-last-of2 c = c .before .before .before .before .before .before .before .before .before
+
+abbrev start : tie.After-last-of2 → tie.Start
+start c = c .before .before .before .before .before .before
+
 load-number-requires : tie.Need-load-number-requires
 load-number-requires c κs = let j = c .pre .0 in (j .ceder, j .category, j .day)
 
@@ -68,7 +75,7 @@ steps-of-requires c κs = search needs
 
 step-verdict-requires : tie.Need-step-verdict-requires
 step-verdict-requires c κs =
-    let b = c .before .before .before .before .before .before .before .before .before .before .before .before .before .before .before .before .before in (
+    let b = start (after-last-of2 (c .before .before)) in (
       omega (arith, c .before .first-counted .ensures, c .steps-of .ensures, b .pre .0 .counted),
       omega (arith, c .steps-of .ensures, steps-small (b .args .at .day)),
       c .before .before .before .approved-of .ensures .1,
@@ -78,20 +85,21 @@ step-verdict-requires c κs =
 
 returns-2 : tie.Need-returns-2
 returns-2 c =
-    let b = c .before .before .before .before .before .before .before .before .before .before .before .before .before .before .before .before .before .before in
+    let at-approved-of2 = c .before .before .before in
+    let b = start (after-last-of2 at-approved-of2) in
     let a = b .args in
     let j = b .pre .0 in
     let nets = c .before .before .before .before .before .before .before .before .nets-of .ensures in
-    let number = c .before .before .before .before .before .before .before .before .before .before .before .before .before .before .before .before .before .load-number .ensures in
-    let found = c .before .before .before .before .before .before .before .before .before .before .before .before .before .before .before .before .last-of .ensures in (
+    let number = after-last-of2 at-approved-of2 .before .before .before .before .before .load-number .ensures in
+    let found = after-last-of2 at-approved-of2 .before .before .before .before .last-of .ensures in (
       (λ ids.
           let cols = columns (a .statuses .now) ids (a .keys .now) (a .marks .now) (a .rows .now) in
           let loads = loadColumns (a .numbers .now) (a .approved .now) (a .loads .now) in
           c .step-verdict .ensures
           ∙ fits-is (a .self) cols loads (a .at) (a .ps .now) j _ _ (c .before .before .first-counted .ensures) (c .before .steps-of .ensures)
-          _ _ number (c .before .before .before .before .before .before .before .before .before .before .before .before .before .load-number2 .ensures) _ _ found (c .before .before .before .before .before .before .before .before .before .before .before .before .last-of2 .ensures) _ (nets .0 ids)
-          _ _ (c .before .before .before .before .approved-of .ensures .0) (c .before .before .before .approved-of2 .ensures .0)
-          ∙ load-passed (a .self) cols loads (keyAt (a .at)) _ _ (j .ceder) (j .category) number found _ (c .before .before .before .before .before .before .before .before .before .before .before .before .before .before .enum-told2 .given .1) (a .ps .now)),
+          _ _ number (after-last-of2 at-approved-of2 .before .load-number2 .ensures) _ _ found (after-last-of2 at-approved-of2 .last-of2 .ensures) _ (nets .0 ids)
+          _ _ (c .before .before .before .before .approved-of .ensures .0) (at-approved-of2 .approved-of2 .ensures .0)
+          ∙ load-passed (a .self) cols loads (keyAt (a .at)) _ _ (j .ceder) (j .category) number found _ (after-last-of2 at-approved-of2 .before .before .enum-told2 .given .1) (a .ps .now)),
       (λ t. nets .1),
     )
 
