@@ -8,6 +8,7 @@ pub mod Filings
 pub mod Records
 pub mod Notes
 pub mod Answers
+pub mod ShownRecords
 pub mod Telling
 pub mod Runs
 pub mod Demand2

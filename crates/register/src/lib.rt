@@ -3,6 +3,7 @@ pub mod asking;
 pub mod enrolling;
 pub mod filing;
 pub mod loading;
+pub mod showing;
 pub mod turning;
 pub mod verdicts;
 

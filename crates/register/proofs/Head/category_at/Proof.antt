@@ -1,7 +1,7 @@
 -- `Head::category_at` meets its contract: the six bytes of the entry at the place, or zeros past the last.
 use mathlib.Core.Path.{_∙_}
 use Rattle.tables.proofs.Entries.{categories-length}
-use Rattle.register.proofs.Answers.{category-here, category-past}
+use Rattle.register.proofs.ShownRecords.{category-here, category-past}
 use borrow.Author.Needs.{needs}
 use Rattle.register.proofs.Head.category_at.Statement.{statement}
 use Rattle.register.proofs.Head.category_at.Tie as tie

@@ -1,6 +1,6 @@
 -- `Head::code_at` meets its contract: the code of the entry at the place, or zeros past the last.
 use Rattle.register.proofs.Parties.{head-entries}
-use Rattle.register.proofs.Answers.{code-here, code-past}
+use Rattle.register.proofs.ShownRecords.{code-here, code-past}
 use borrow.Author.Needs.{needs}
 use Rattle.register.proofs.Head.code_at.Statement.{statement}
 use Rattle.register.proofs.Head.code_at.Tie as tie

@@ -9,7 +9,7 @@ use Rattle.refusals.specs.declared.Verdict.the-variants.{Pass}
 use Rattle.refusals.proofs.Tests.{triedAll, then-tried}
 use Rattle.tables.specs.Tables.{Columns, columns, actorsIn}
 use Rattle.register.proofs.Parties.{head-actors}
-use Rattle.register.proofs.Answers.{recordTried, found-below, shown-refused, shown-found}
+use Rattle.register.proofs.ShownRecords.{recordTried, found-below, shown-refused, shown-found}
 use borrow.Author.Needs.{needs}
 use Rattle.register.proofs.Head.record.Statement.{statement}
 use Rattle.register.proofs.Head.record.Tie as tie

@@ -1,6 +1,6 @@
 -- `Head::shown_at` meets its contract: each part of what is shown stands at the place or is told by it.
 use Rattle.tables.specs.Tables.{columns}
-use Rattle.register.proofs.Answers.{shown-by}
+use Rattle.register.proofs.ShownRecords.{shown-by}
 use borrow.Author.Needs.{needs}
 use Rattle.register.proofs.Head.shown_at.Statement.{statement}
 use Rattle.register.proofs.Head.shown_at.Tie as tie
