@@ -9,7 +9,7 @@ use lib.ListN.{length, getD, drop}
 use borrow.Author.Tests.{eqb-true, eqb-false, leb-true, leb-false, ltb-true, ltb-false}
 use Rattle.lists.specs.Searches.{placeOf}
 use Rattle.lists.proofs.Tests.{by-test}
-use Rattle.script.specs.Lines.{Asked, unknown, comma, lineOf, fileIn}
+use Rattle.script.specs.Lines.{Asked, unknown, comma, lineOf, fileLine}
 use Rattle.script.specs.Fields.{fieldsFrom}
 use Rattle.script.specs.Spans.{start, asked, Read}
 use Rattle.script.specs.Walking.{isComma, FieldEnd}
@@ -37,7 +37,7 @@ ends-at line from h =
     field-end line from (from + p) h (omega arith) e
 
 -- a line that begins with F and a comma
-named-f : (line : List ℕ) → start ≤ length line → lineOf line ≡ fileIn (fieldsFrom line start) → 0 < nameAt line → NamedIn line (nameAt line)
+named-f : (line : List ℕ) → start ≤ length line → lineOf line ≡ fileLine (fieldsFrom line start) → 0 < nameAt line → NamedIn line (nameAt line)
 named-f line h e k =
     let a = start + placeOf isComma (drop start line) in
     let pa = ends-at line start h in

@@ -12,7 +12,7 @@ use Rattle.lists.proofs.Parts.{rest-all}
 use Rattle.lists.proofs.Tests.{by-test, true-false}
 use Rattle.ledger.specs.Call as Call
 use Rattle.script.specs.Numbers.{isNumber, valueOf, isDay, dayIn}
-use Rattle.script.specs.Lines.{Asked, calls, fileOf, engagement, recordOf, unknown, known, field, end, more, comma, byLetter, lineOf, advanceIn, enrolIn, categoryIn, loadIn, engagementIn, recordIn}
+use Rattle.script.specs.Lines.{Asked, calls, fileOf, engagement, recordOf, unknown, known, field, end, more, comma, byLetter, lineOf, advanceLine, enrolLine, categoryLine, loadLine, engagementLine, recordLine}
 use Rattle.script.specs.Spans.{firstText, secondText, askedOf, asked, namesFile, Read}
 use Rattle.script.specs.declared.reading.Kind.{Kind}
 use Rattle.script.specs.declared.reading.Kind.the-variants.{Calls, Files, Engagement, RecordOf, Unknown}
@@ -50,7 +50,7 @@ module _ (n : ℕ) where
   cond-none false a b e f = f
 
   letter-none : (b : ℕ) (fs : List (List ℕ)) → eqb b 70 ≡ false → None (byLetter b fs)
-  unfolding byLetter advanceIn enrolIn categoryIn loadIn engagementIn recordIn
+  unfolding byLetter advanceLine enrolLine categoryLine loadLine engagementLine recordLine
   letter-none b fs e =
       cond-none (eqb b 84) _ _
       (field-none _ (λ date. field-none _ (λ minute. end-none _

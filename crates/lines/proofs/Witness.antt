@@ -15,7 +15,7 @@ use Rattle.register.specs.Written.{freshRegister}
 use Rattle.register.proofs.RunsExist.{fresh-begun}
 use Rattle.register.proofs.Witness.{zeros, noLoads, zeros-sized, loads-sized}
 use Rattle.script.specs.Numbers.{decimalIn}
-use Rattle.script.specs.Lines.{fields, categoryIn, fileIn, byLetter, lineOf}
+use Rattle.script.specs.Lines.{fields, categoryLine, fileLine, byLetter, lineOf}
 use Rattle.script.specs.Answers.{valueText, valuesText, saidText, answerLine}
 use Rattle.lines.specs.Scripts.{linesAfter, linesOf, joined, Files, lineSays, printed}
 use Rattle.lines.proofs.Whole.{out-of}
@@ -45,7 +45,7 @@ ran =
     (all-more (omega (arith, n)) (all-more (omega (arith, n)) all-none))
 
 said : printed none-there fresh 1 (linesOf (joined blocks)) ≡ answers
-unfolding printed linesAfter lineSays lineOf fields categoryIn fileIn byLetter answerLine saidText valuesText valueText decimalIn step verdictOf effect categoryTests isCategory categoryAt placeOf
+unfolding printed linesAfter lineSays lineOf fields categoryLine fileLine byLetter answerLine saidText valuesText valueText decimalIn step verdictOf effect categoryTests isCategory categoryAt placeOf
 said = refl
 
 -- each line is answered, and the answers are all that is printed

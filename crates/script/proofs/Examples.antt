@@ -14,7 +14,7 @@ use Rattle.ledger.specs.declared.Answer.the-variants.{Moved, Held, Filed, Refus
 use Rattle.ledger.specs.declared.Engaged.the-variants.{Power}
 use Rattle.answers.specs.Values.{saidOf, saidEngaged, saidRefused}
 use Rattle.script.specs.Numbers.{isNumber, valueFrom, decimalIn}
-use Rattle.script.specs.Lines.{Asked, calls, fileOf, engagement, recordOf, unknown, fields, advanceIn, enrolIn, categoryIn, loadIn, fileIn, engagementIn, recordIn, byLetter, lineOf}
+use Rattle.script.specs.Lines.{Asked, calls, fileOf, engagement, recordOf, unknown, fields, advanceLine, enrolLine, categoryLine, loadLine, fileLine, engagementLine, recordLine, byLetter, lineOf}
 use Rattle.script.specs.Answers.{valueText, valuesText, saidText, answerLine}
 
 -- codes 17X100A100R000.. by their last two bytes, and the category 13120
@@ -121,7 +121,7 @@ pub record Edge : Type 0 where
   pub answer-largest : answerLine 0 (saidEngaged (Power 4294967295)) ≡ 48 ∷ 44 ∷ 111 ∷ 107 ∷ 44 ∷ 52 ∷ 50 ∷ 57 ∷ 52 ∷ 57 ∷ 54 ∷ 55 ∷ 50 ∷ 57 ∷ 53 ∷ 10 ∷ []
 
 pub sample : Sample
-unfolding eic category sevens number valid monthLength leapDays beforeYear beforeMonth pairOf dayOf isNumber valueFrom decimalIn fields advanceIn enrolIn categoryIn loadIn fileIn engagementIn recordIn byLetter lineOf valueText valuesText saidText answerLine
+unfolding eic category sevens number valid monthLength leapDays beforeYear beforeMonth pairOf dayOf isNumber valueFrom decimalIn fields advanceLine enrolLine categoryLine loadLine fileLine engagementLine recordLine byLetter lineOf valueText valuesText saidText answerLine
 sample =
     record {
       line-1 = refl;
@@ -141,7 +141,7 @@ sample =
     }
 
 pub edge : Edge
-unfolding eic category sevens number valid monthLength leapDays beforeYear beforeMonth pairOf dayOf isNumber valueFrom decimalIn fields advanceIn enrolIn categoryIn loadIn fileIn engagementIn recordIn byLetter lineOf valueText valuesText saidText answerLine
+unfolding eic category sevens number valid monthLength leapDays beforeYear beforeMonth pairOf dayOf isNumber valueFrom decimalIn fields advanceLine enrolLine categoryLine loadLine fileLine engagementLine recordLine byLetter lineOf valueText valuesText saidText answerLine
 edge =
     record {
       empty-line = refl;

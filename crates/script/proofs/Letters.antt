@@ -8,7 +8,7 @@ use lib.Dec.{eqb, leb}
 use lib.ListN.{length, getD, drop}
 use borrow.Author.Tests.{eqb-true, eqb-false, eq-eqb, ne-eqb, le-leb, lt-leb}
 use Rattle.notification.specs.Reading.{onto}
-use Rattle.script.specs.Lines.{Asked, unknown, known, field, lineMost, comma, fields, letterOf, byLetter, lineOf, advanceIn, enrolIn, categoryIn, loadIn, fileIn, engagementIn, recordIn}
+use Rattle.script.specs.Lines.{Asked, unknown, known, field, lineMost, comma, fields, letterOf, byLetter, lineOf, advanceLine, enrolLine, categoryLine, loadLine, fileLine, engagementLine, recordLine}
 use Rattle.script.specs.Fields.{fieldsFrom}
 use Rattle.script.specs.Spans.{start, Read}
 use Rattle.script.specs.declared.reading.Line.{Line}
@@ -22,7 +22,7 @@ unknown-either false = refl
 
 -- a letter with no field after it
 letter-alone : (b : ℕ) → byLetter b [] ≡ unknown
-unfolding byLetter advanceIn enrolIn categoryIn loadIn fileIn engagementIn recordIn
+unfolding byLetter advanceLine enrolLine categoryLine loadLine fileLine engagementLine recordLine
 letter-alone b =
     simp (unknown-either (eqb b 82), unknown-either (eqb b 69), unknown-either (eqb b 70), unknown-either (eqb b 76), unknown-either (eqb b 67), unknown-either (eqb b 65), unknown-either (eqb b 84))
 
@@ -87,30 +87,30 @@ pub no-letter : (b : ℕ) (fs : List (List ℕ)) → (b ≡ 84 → ⊥) → (b �
 unfolding byLetter
 no-letter b fs t a c l f e r = rw (ne-eqb b 84 t, ne-eqb b 65 a, ne-eqb b 67 c, ne-eqb b 76 l, ne-eqb b 70 f, ne-eqb b 69 e, ne-eqb b 82 r)
 
-pub letter-t : (fs : List (List ℕ)) → byLetter 84 fs ≡ advanceIn fs
+pub letter-t : (fs : List (List ℕ)) → byLetter 84 fs ≡ advanceLine fs
 unfolding byLetter
 letter-t fs = refl
 
-pub letter-a : (fs : List (List ℕ)) → byLetter 65 fs ≡ enrolIn fs
+pub letter-a : (fs : List (List ℕ)) → byLetter 65 fs ≡ enrolLine fs
 unfolding byLetter
 letter-a fs = refl
 
-pub letter-c : (fs : List (List ℕ)) → byLetter 67 fs ≡ categoryIn fs
+pub letter-c : (fs : List (List ℕ)) → byLetter 67 fs ≡ categoryLine fs
 unfolding byLetter
 letter-c fs = refl
 
-pub letter-l : (fs : List (List ℕ)) → byLetter 76 fs ≡ loadIn fs
+pub letter-l : (fs : List (List ℕ)) → byLetter 76 fs ≡ loadLine fs
 unfolding byLetter
 letter-l fs = refl
 
-pub letter-f : (fs : List (List ℕ)) → byLetter 70 fs ≡ fileIn fs
+pub letter-f : (fs : List (List ℕ)) → byLetter 70 fs ≡ fileLine fs
 unfolding byLetter
 letter-f fs = refl
 
-pub letter-e : (fs : List (List ℕ)) → byLetter 69 fs ≡ engagementIn fs
+pub letter-e : (fs : List (List ℕ)) → byLetter 69 fs ≡ engagementLine fs
 unfolding byLetter
 letter-e fs = refl
 
-pub letter-r : (fs : List (List ℕ)) → byLetter 82 fs ≡ recordIn fs
+pub letter-r : (fs : List (List ℕ)) → byLetter 82 fs ≡ recordLine fs
 unfolding byLetter
 letter-r fs = refl

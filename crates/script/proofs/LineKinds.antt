@@ -12,7 +12,7 @@ use Rattle.lists.specs.Searches.{placeOf}
 use Rattle.lists.proofs.Tests.{true-false, and-right}
 use Rattle.calendar.specs.Dates.{dayCount}
 use Rattle.script.specs.Numbers.{numberEnd, isNumber, valueOf, dayIn, isDay}
-use Rattle.script.specs.Lines.{Asked, unknown, fields, advanceIn, enrolIn, categoryIn, fileIn, engagementIn, recordIn}
+use Rattle.script.specs.Lines.{Asked, unknown, fields, advanceLine, enrolLine, categoryLine, fileLine, engagementLine, recordLine}
 use Rattle.script.specs.Fields.{fieldsFrom, numberIn}
 use Rattle.script.specs.Spans.{cut, start, namesFile, asked, Read}
 use Rattle.script.specs.Walking.{isComma, FieldEnd}
@@ -58,25 +58,25 @@ number-passed s v q t = sym (number-value s (sym (number-test s) ∙ rw (← q) 
 -- ---- T
 
 module _ (line : List ℕ) (a : ℕ) (pa : FieldEnd line start a) where
-  pub advance-short : length line ≤ a → Read line noLine (advanceIn (fieldsFrom line start))
-  unfolding advanceIn
+  pub advance-short : length line ≤ a → Read line noLine (advanceLine (fieldsFrom line start))
+  unfolding advanceLine
   advance-short h = unknown-as line _ (rw (pa .parts, none-after line a h))
 
   module _ (b : ℕ) (pb : FieldEnd line (a + 1) b) where
-    pub advance-long : b < length line → Read line noLine (advanceIn (fieldsFrom line start))
-    unfolding advanceIn
+    pub advance-long : b < length line → Read line noLine (advanceLine (fieldsFrom line start))
+    unfolding advanceLine
     advance-long h = unknown-as line _ (rw (pa .parts, pb .parts, some-after line b h))
 
     module _ (h : length line ≤ b) (day v : ℕ) (p : day ≡ dayIn (cut line start a)) (q : v ≡ numberIn (cut line (a + 1) b)) where
-      pub advance-good : (ltb day dayCount && ltb v numberEnd) ≡ true → Read line (plain (Calls Advance) 0 0 day v) (advanceIn (fieldsFrom line start))
-      unfolding advanceIn asked
+      pub advance-good : (ltb day dayCount && ltb v numberEnd) ≡ true → Read line (plain (Calls Advance) 0 0 day v) (advanceLine (fieldsFrom line start))
+      unfolding advanceLine asked
       advance-good t =
           let e = number-passed (cut line (a + 1) b) v q (and-right (ltb day dayCount) (ltb v numberEnd) t) in
           let k = date-and-number (cut line start a) (cut line (a + 1) b) day v p q ∙ t in
           read-as line _ _ refl (rw (pa .parts, pb .parts, none-after line b h, k, e, p))
 
-      pub advance-bad : (ltb day dayCount && ltb v numberEnd) ≡ false → Read line noLine (advanceIn (fieldsFrom line start))
-      unfolding advanceIn
+      pub advance-bad : (ltb day dayCount && ltb v numberEnd) ≡ false → Read line noLine (advanceLine (fieldsFrom line start))
+      unfolding advanceLine
       advance-bad t =
           let k = date-and-number (cut line start a) (cut line (a + 1) b) day v p q ∙ t in
           unknown-as line _ (rw (pa .parts, pb .parts, none-after line b h, k))
@@ -84,29 +84,29 @@ module _ (line : List ℕ) (a : ℕ) (pa : FieldEnd line start a) where
 -- ---- A
 
 module _ (line : List ℕ) (a : ℕ) (pa : FieldEnd line start a) where
-  pub enrol-short : length line ≤ a → Read line noLine (enrolIn (fieldsFrom line start))
-  unfolding enrolIn
+  pub enrol-short : length line ≤ a → Read line noLine (enrolLine (fieldsFrom line start))
+  unfolding enrolLine
   enrol-short h = unknown-as line _ (rw (pa .parts, none-after line a h))
 
   module _ (b : ℕ) (pb : FieldEnd line (a + 1) b) where
-    pub enrol-shorter : length line ≤ b → Read line noLine (enrolIn (fieldsFrom line start))
-    unfolding enrolIn
+    pub enrol-shorter : length line ≤ b → Read line noLine (enrolLine (fieldsFrom line start))
+    unfolding enrolLine
     enrol-shorter h = unknown-as line _ (rw (pa .parts, pb .parts, none-after line b h))
 
     module _ (c : ℕ) (pc : FieldEnd line (b + 1) c) where
-      pub enrol-long : c < length line → Read line noLine (enrolIn (fieldsFrom line start))
-      unfolding enrolIn
+      pub enrol-long : c < length line → Read line noLine (enrolLine (fieldsFrom line start))
+      unfolding enrolLine
       enrol-long h = unknown-as line _ (rw (pa .parts, pb .parts, pc .parts, some-after line c h))
 
       module _ (h : length line ≤ c) (first last : ℕ) (p : first ≡ dayIn (cut line (a + 1) b)) (q : last ≡ dayIn (cut line (b + 1) c)) where
-        pub enrol-good : (ltb first dayCount && ltb last dayCount) ≡ true → Read line (plain (Calls EnrolActor) a 0 first last) (enrolIn (fieldsFrom line start))
-        unfolding enrolIn asked
+        pub enrol-good : (ltb first dayCount && ltb last dayCount) ≡ true → Read line (plain (Calls EnrolActor) a 0 first last) (enrolLine (fieldsFrom line start))
+        unfolding enrolLine asked
         enrol-good t =
             let k : (isDay (cut line (a + 1) b) && isDay (cut line (b + 1) c)) ≡ true = rw (← p, ← q) t in
             read-as line _ _ refl (rw (pa .parts, pb .parts, pc .parts, none-after line c h, k, p, q))
 
-        pub enrol-bad : (ltb first dayCount && ltb last dayCount) ≡ false → Read line noLine (enrolIn (fieldsFrom line start))
-        unfolding enrolIn
+        pub enrol-bad : (ltb first dayCount && ltb last dayCount) ≡ false → Read line noLine (enrolLine (fieldsFrom line start))
+        unfolding enrolLine
         enrol-bad t =
             let k : (isDay (cut line (a + 1) b) && isDay (cut line (b + 1) c)) ≡ false = rw (← p, ← q) t in
             unknown-as line _ (rw (pa .parts, pb .parts, pc .parts, none-after line c h, k))
@@ -114,53 +114,53 @@ module _ (line : List ℕ) (a : ℕ) (pa : FieldEnd line start a) where
 -- ---- C
 
 module _ (line : List ℕ) (a : ℕ) (pa : FieldEnd line start a) where
-  pub category-long : a < length line → Read line noLine (categoryIn (fieldsFrom line start))
-  unfolding categoryIn
+  pub category-long : a < length line → Read line noLine (categoryLine (fieldsFrom line start))
+  unfolding categoryLine
   category-long h = unknown-as line _ (rw (pa .parts, some-after line a h))
 
-  pub category-good : length line ≤ a → Read line (plain (Calls EnrolCategory) a 0 0 0) (categoryIn (fieldsFrom line start))
-  unfolding categoryIn asked
+  pub category-good : length line ≤ a → Read line (plain (Calls EnrolCategory) a 0 0 0) (categoryLine (fieldsFrom line start))
+  unfolding categoryLine asked
   category-good h = read-as line _ _ refl (rw (pa .parts, none-after line a h))
 
 -- ---- F
 
 module _ (line : List ℕ) (a : ℕ) (pa : FieldEnd line start a) where
-  pub file-short : length line ≤ a → Read line noLine (fileIn (fieldsFrom line start))
-  unfolding fileIn
+  pub file-short : length line ≤ a → Read line noLine (fileLine (fieldsFrom line start))
+  unfolding fileLine
   file-short h = unknown-as line _ (rw (pa .parts, none-after line a h))
 
   module _ (b : ℕ) (pb : FieldEnd line (a + 1) b) where
-    pub file-long : b < length line → Read line noLine (fileIn (fieldsFrom line start))
-    unfolding fileIn
+    pub file-long : b < length line → Read line noLine (fileLine (fieldsFrom line start))
+    unfolding fileLine
     file-long h = unknown-as line _ (rw (pa .parts, pb .parts, some-after line b h))
 
-    pub file-good : a < length line → length line ≤ b → Read line (plain Files a b 0 0) (fileIn (fieldsFrom line start))
-    unfolding fileIn asked
+    pub file-good : a < length line → length line ≤ b → Read line (plain Files a b 0 0) (fileLine (fieldsFrom line start))
+    unfolding fileLine asked
     file-good i h =
         record { says = rw (pa .parts, pb .parts, none-after line b h); named = λ t. (i, omega (arith, h, pb .inside)) }
 
 -- ---- R
 
 module _ (line : List ℕ) (a : ℕ) (pa : FieldEnd line start a) where
-  pub record-short : length line ≤ a → Read line noLine (recordIn (fieldsFrom line start))
-  unfolding recordIn
+  pub record-short : length line ≤ a → Read line noLine (recordLine (fieldsFrom line start))
+  unfolding recordLine
   record-short h = unknown-as line _ (rw (pa .parts, none-after line a h))
 
   module _ (b : ℕ) (pb : FieldEnd line (a + 1) b) where
-    pub record-long : b < length line → Read line noLine (recordIn (fieldsFrom line start))
-    unfolding recordIn
+    pub record-long : b < length line → Read line noLine (recordLine (fieldsFrom line start))
+    unfolding recordLine
     record-long h = unknown-as line _ (rw (pa .parts, pb .parts, some-after line b h))
 
     module _ (h : length line ≤ b) (v : ℕ) (q : v ≡ numberIn (cut line (a + 1) b)) where
-      pub record-good : v < numberEnd → Read line (plain RecordOf a 0 0 v) (recordIn (fieldsFrom line start))
-      unfolding recordIn asked
+      pub record-good : v < numberEnd → Read line (plain RecordOf a 0 0 v) (recordLine (fieldsFrom line start))
+      unfolding recordLine asked
       record-good t =
           let e = number-passed (cut line (a + 1) b) v q (lt-ltb v numberEnd t) in
           let k : isNumber (cut line (a + 1) b) ≡ true = sym (number-test (cut line (a + 1) b)) ∙ rw (← q) (lt-ltb v numberEnd t) in
           read-as line _ _ refl (rw (pa .parts, pb .parts, none-after line b h, k, e))
 
-      pub record-bad : numberEnd ≤ v → Read line noLine (recordIn (fieldsFrom line start))
-      unfolding recordIn
+      pub record-bad : numberEnd ≤ v → Read line noLine (recordLine (fieldsFrom line start))
+      unfolding recordLine
       record-bad t =
           let k : isNumber (cut line (a + 1) b) ≡ false = sym (number-test (cut line (a + 1) b)) ∙ rw (← q) (le-ltb v numberEnd t) in
           unknown-as line _ (rw (pa .parts, pb .parts, none-after line b h, k))
@@ -168,35 +168,35 @@ module _ (line : List ℕ) (a : ℕ) (pa : FieldEnd line start a) where
 -- ---- E
 
 module _ (line : List ℕ) (a : ℕ) (pa : FieldEnd line start a) where
-  pub engagement-one : length line ≤ a → Read line noLine (engagementIn (fieldsFrom line start))
-  unfolding engagementIn
+  pub engagement-one : length line ≤ a → Read line noLine (engagementLine (fieldsFrom line start))
+  unfolding engagementLine
   engagement-one h = unknown-as line _ (rw (pa .parts, none-after line a h))
 
   module _ (b : ℕ) (pb : FieldEnd line (a + 1) b) where
-    pub engagement-two : length line ≤ b → Read line noLine (engagementIn (fieldsFrom line start))
-    unfolding engagementIn
+    pub engagement-two : length line ≤ b → Read line noLine (engagementLine (fieldsFrom line start))
+    unfolding engagementLine
     engagement-two h = unknown-as line _ (rw (pa .parts, pb .parts, none-after line b h))
 
     module _ (c : ℕ) (pc : FieldEnd line (b + 1) c) where
-      pub engagement-three : length line ≤ c → Read line noLine (engagementIn (fieldsFrom line start))
-      unfolding engagementIn
+      pub engagement-three : length line ≤ c → Read line noLine (engagementLine (fieldsFrom line start))
+      unfolding engagementLine
       engagement-three h = unknown-as line _ (rw (pa .parts, pb .parts, pc .parts, none-after line c h))
 
       module _ (d : ℕ) (pd : FieldEnd line (c + 1) d) where
-        pub engagement-long : d < length line → Read line noLine (engagementIn (fieldsFrom line start))
-        unfolding engagementIn
+        pub engagement-long : d < length line → Read line noLine (engagementLine (fieldsFrom line start))
+        unfolding engagementLine
         engagement-long h = unknown-as line _ (rw (pa .parts, pb .parts, pc .parts, pd .parts, some-after line d h))
 
         module _ (h : length line ≤ d) (day v : ℕ) (p : day ≡ dayIn (cut line (b + 1) c)) (q : v ≡ numberIn (cut line (c + 1) d)) where
-          pub engagement-good : (ltb day dayCount && ltb v numberEnd) ≡ true → Read line (plain Engagement a b day v) (engagementIn (fieldsFrom line start))
-          unfolding engagementIn asked
+          pub engagement-good : (ltb day dayCount && ltb v numberEnd) ≡ true → Read line (plain Engagement a b day v) (engagementLine (fieldsFrom line start))
+          unfolding engagementLine asked
           engagement-good t =
               let e = number-passed (cut line (c + 1) d) v q (and-right (ltb day dayCount) (ltb v numberEnd) t) in
               let k = date-and-number (cut line (b + 1) c) (cut line (c + 1) d) day v p q ∙ t in
               read-as line _ _ refl (rw (pa .parts, pb .parts, pc .parts, pd .parts, none-after line d h, k, e, p))
 
-          pub engagement-bad : (ltb day dayCount && ltb v numberEnd) ≡ false → Read line noLine (engagementIn (fieldsFrom line start))
-          unfolding engagementIn
+          pub engagement-bad : (ltb day dayCount && ltb v numberEnd) ≡ false → Read line noLine (engagementLine (fieldsFrom line start))
+          unfolding engagementLine
           engagement-bad t =
               let k = date-and-number (cut line (b + 1) c) (cut line (c + 1) d) day v p q ∙ t in
               unknown-as line _ (rw (pa .parts, pb .parts, pc .parts, pd .parts, none-after line d h, k))

@@ -13,7 +13,7 @@ use Rattle.lists.proofs.Tests.{and-left, and-right}
 use Rattle.calendar.specs.Dates.{dayCount}
 use Rattle.ledger.specs.Call as Call
 use Rattle.script.specs.Numbers.{numberEnd, isNumber, valueOf, dayIn}
-use Rattle.script.specs.Lines.{calls, known, loadIn}
+use Rattle.script.specs.Lines.{calls, known, loadLine}
 use Rattle.script.specs.Fields.{fieldsFrom, numberIn}
 use Rattle.script.specs.Spans.{cut, start, powerPlaces, powersOf, asked, Read}
 use Rattle.script.specs.Walking.{FieldEnd, countIn}
@@ -32,36 +32,36 @@ count-test x xs = go (every isNumber (x ∷ xs))
     go false = refl
 
 module _ (line : List ℕ) (a : ℕ) (pa : FieldEnd line start a) where
-  pub load-one : length line ≤ a → Read line noLine (loadIn (fieldsFrom line start))
-  unfolding loadIn
+  pub load-one : length line ≤ a → Read line noLine (loadLine (fieldsFrom line start))
+  unfolding loadLine
   load-one h = unknown-as line _ (rw (pa .parts, none-after line a h))
 
   module _ (b : ℕ) (pb : FieldEnd line (a + 1) b) where
-    pub load-two : length line ≤ b → Read line noLine (loadIn (fieldsFrom line start))
-    unfolding loadIn
+    pub load-two : length line ≤ b → Read line noLine (loadLine (fieldsFrom line start))
+    unfolding loadLine
     load-two h = unknown-as line _ (rw (pa .parts, pb .parts, none-after line b h))
 
     module _ (c : ℕ) (pc : FieldEnd line (b + 1) c) where
-      pub load-three : length line ≤ c → Read line noLine (loadIn (fieldsFrom line start))
-      unfolding loadIn
+      pub load-three : length line ≤ c → Read line noLine (loadLine (fieldsFrom line start))
+      unfolding loadLine
       load-three h = unknown-as line _ (rw (pa .parts, pb .parts, pc .parts, none-after line c h))
 
       module _ (d : ℕ) (pd : FieldEnd line (c + 1) d) where
-        pub load-four : length line ≤ d → Read line noLine (loadIn (fieldsFrom line start))
-        unfolding loadIn
+        pub load-four : length line ≤ d → Read line noLine (loadLine (fieldsFrom line start))
+        unfolding loadLine
         load-four h = unknown-as line _ (rw (pa .parts, pb .parts, pc .parts, pd .parts, none-after line d h))
 
         module _ (h : d < length line) (day v n : ℕ) (p : day ≡ dayIn (cut line (b + 1) c)) (q : v ≡ numberIn (cut line (c + 1) d)) (r : n ≡ countIn (fieldsFrom line (d + 1))) where
           powers-test : every isNumber (fieldsFrom line (d + 1)) ≡ ltb 0 n
           powers-test = rw (r, some-after line d h) (sym (count-test _ _))
 
-          asks : loadIn (fieldsFrom line start) ≡ known (ltb day dayCount && ltb v numberEnd && ltb 0 n) (calls (Call.load (cut line start a) (cut line (a + 1) b) day (valueOf (cut line (c + 1) d)) (map valueOf (fieldsFrom line (d + 1)))))
-          unfolding loadIn
+          asks : loadLine (fieldsFrom line start) ≡ known (ltb day dayCount && ltb v numberEnd && ltb 0 n) (calls (Call.load (cut line start a) (cut line (a + 1) b) day (valueOf (cut line (c + 1) d)) (map valueOf (fieldsFrom line (d + 1)))))
+          unfolding loadLine
           asks =
               let t = date-and-number (cut line (b + 1) c) (cut line (c + 1) d) day v p q in
               rw (← t, ← powers-test, p, pa .parts, pb .parts, pc .parts, pd .parts, some-after line d h)
 
-          pub load-bad : (ltb day dayCount && ltb v numberEnd && ltb 0 n) ≡ false → Read line noLine (loadIn (fieldsFrom line start))
+          pub load-bad : (ltb day dayCount && ltb v numberEnd && ltb 0 n) ≡ false → Read line noLine (loadLine (fieldsFrom line start))
           load-bad t = unknown-as line _ (sym (asks ∙ rw t))
 
           pub load-numbers : (ltb day dayCount && ltb v numberEnd && ltb 0 n) ≡ true → (every isNumber (fieldsFrom line (d + 1)) ≡ true) × (n ≡ length (fieldsFrom line (d + 1)))
@@ -79,7 +79,7 @@ module _ (line : List ℕ) (a : ℕ) (pa : FieldEnd line start a) where
               rw (z, take-length (map numberIn fs)) (numbers-values fs e)
 
           pub load-good : n ≤ powerPlaces → (ltb day dayCount && ltb v numberEnd && ltb 0 n) ≡ true
-              → Read line (record { kind = Calls Load; first = a; second = b; day = day; number = v; from = d + 1; count = n }) (loadIn (fieldsFrom line start))
+              → Read line (record { kind = Calls Load; first = a; second = b; day = day; number = v; from = d + 1; count = n }) (loadLine (fieldsFrom line start))
           unfolding asked powersOf
           load-good m t =
               let s = load-numbers t in

@@ -52,40 +52,40 @@ more f [] = unknown
 more f (x ∷ fs) = f (x ∷ fs)
 
 -- `T,date,minute`
-unfoldable pub advanceIn : List (List ℕ) → Asked
-advanceIn =
+unfoldable pub advanceLine : List (List ℕ) → Asked
+advanceLine =
     field (λ date. field (λ minute. end (known (isDay date && isNumber minute) (calls (Call.advance (dayIn date) (valueOf minute))))))
 
 -- `A,code,first,last`
-unfoldable pub enrolIn : List (List ℕ) → Asked
-enrolIn =
+unfoldable pub enrolLine : List (List ℕ) → Asked
+enrolLine =
     field (λ code. field (λ first. field (λ last. end
     (known (isDay first && isDay last) (calls (Call.enrolActor code (dayIn first) (dayIn last)))))))
 
 -- `C,category`
-unfoldable pub categoryIn : List (List ℕ) → Asked
-categoryIn = field (λ text. end (calls (Call.enrolCategory text)))
+unfoldable pub categoryLine : List (List ℕ) → Asked
+categoryLine = field (λ text. end (calls (Call.enrolCategory text)))
 
 -- `L,actor,category,date,approved,` then one power or more
-unfoldable pub loadIn : List (List ℕ) → Asked
-loadIn =
+unfoldable pub loadLine : List (List ℕ) → Asked
+loadLine =
     field (λ actor. field (λ category. field (λ date. field (λ approved. more (λ powers.
     known (isDay date && isNumber approved && every isNumber powers)
     (calls (Call.load actor category (dayIn date) (valueOf approved) (map valueOf powers))))))))
 
 -- `F,submitter,name`
-unfoldable pub fileIn : List (List ℕ) → Asked
-fileIn = field (λ submitter. field (λ name. end (fileOf submitter name)))
+unfoldable pub fileLine : List (List ℕ) → Asked
+fileLine = field (λ submitter. field (λ name. end (fileOf submitter name)))
 
 -- `E,actor,category,date,step`
-unfoldable pub engagementIn : List (List ℕ) → Asked
-engagementIn =
+unfoldable pub engagementLine : List (List ℕ) → Asked
+engagementLine =
     field (λ actor. field (λ category. field (λ date. field (λ step. end
     (known (isDay date && isNumber step) (engagement actor category (dayIn date) (valueOf step)))))))
 
 -- `R,asker,id`
-unfoldable pub recordIn : List (List ℕ) → Asked
-recordIn = field (λ asker. field (λ id. end (known (isNumber id) (recordOf asker (valueOf id)))))
+unfoldable pub recordLine : List (List ℕ) → Asked
+recordLine = field (λ asker. field (λ id. end (known (isNumber id) (recordOf asker (valueOf id)))))
 
 -- the first field is one letter, and 0 stands for a field that is none
 abbrev pub letterOf : List ℕ → ℕ
@@ -96,13 +96,13 @@ letterOf (b ∷ c ∷ s) = 0
 -- T, A, C, L, F, E or R says what the other fields are
 unfoldable pub byLetter : ℕ → List (List ℕ) → Asked
 byLetter b fs =
-    cond (eqb b 84) (advanceIn fs)
-    (cond (eqb b 65) (enrolIn fs)
-    (cond (eqb b 67) (categoryIn fs)
-    (cond (eqb b 76) (loadIn fs)
-    (cond (eqb b 70) (fileIn fs)
-    (cond (eqb b 69) (engagementIn fs)
-    (cond (eqb b 82) (recordIn fs) unknown))))))
+    cond (eqb b 84) (advanceLine fs)
+    (cond (eqb b 65) (enrolLine fs)
+    (cond (eqb b 67) (categoryLine fs)
+    (cond (eqb b 76) (loadLine fs)
+    (cond (eqb b 70) (fileLine fs)
+    (cond (eqb b 69) (engagementLine fs)
+    (cond (eqb b 82) (recordLine fs) unknown))))))
 
 -- WHAT A LINE ASKS
 unfoldable pub lineOf : List ℕ → Asked

@@ -2,7 +2,7 @@
 ghost use mathlib.Core.Path.{_≡_};
 ghost use Prim.Native.Nat.{_≤_};
 ghost use lib.ListN.{length};
-ghost use Rattle.script.specs.Lines.{lineMost, advanceIn, enrolIn, categoryIn, loadIn, fileIn, engagementIn, recordIn, lineOf};
+ghost use Rattle.script.specs.Lines.{lineMost, advanceLine, enrolLine, categoryLine, loadLine, fileLine, engagementLine, recordLine, lineOf};
 ghost use Rattle.script.specs.Fields.{fieldsFrom};
 ghost use Rattle.script.specs.Spans.{start, namesFile, Read};
 use crate::fields::NUMBER_END;
@@ -58,7 +58,7 @@ const UNKNOWN: Line = Line {
 // `T,date,minute`
 fn advance(line: &[u8]) -> Line
     requires { ⌜ (start ≤ length (now line)) × (length (now line) ≤ lineMost) ⌝ }
-    ensures { λ r. ⌜ Read (now (line .entry)) r (advanceIn (fieldsFrom (now (line .entry)) start)) ⌝ }
+    ensures { λ r. ⌜ Read (now (line .entry)) r (advanceLine (fieldsFrom (now (line .entry)) start)) ⌝ }
 {
     let n = line.len();
     let first: usize = 2;
@@ -88,7 +88,7 @@ fn advance(line: &[u8]) -> Line
 // `A,code,first,last`
 fn enrol(line: &[u8]) -> Line
     requires { ⌜ (start ≤ length (now line)) × (length (now line) ≤ lineMost) ⌝ }
-    ensures { λ r. ⌜ Read (now (line .entry)) r (enrolIn (fieldsFrom (now (line .entry)) start)) ⌝ }
+    ensures { λ r. ⌜ Read (now (line .entry)) r (enrolLine (fieldsFrom (now (line .entry)) start)) ⌝ }
 {
     let n = line.len();
     let code = text_end(line, 2);
@@ -123,7 +123,7 @@ fn enrol(line: &[u8]) -> Line
 // `C,category`
 fn category(line: &[u8]) -> Line
     requires { ⌜ (start ≤ length (now line)) × (length (now line) ≤ lineMost) ⌝ }
-    ensures { λ r. ⌜ Read (now (line .entry)) r (categoryIn (fieldsFrom (now (line .entry)) start)) ⌝ }
+    ensures { λ r. ⌜ Read (now (line .entry)) r (categoryLine (fieldsFrom (now (line .entry)) start)) ⌝ }
 {
     let end = field_end(line, 2);
     if end < line.len() {
@@ -139,7 +139,7 @@ fn category(line: &[u8]) -> Line
 // `F,submitter,name`
 fn file(line: &[u8]) -> Line
     requires { ⌜ (start ≤ length (now line)) × (length (now line) ≤ lineMost) ⌝ }
-    ensures { λ r. ⌜ Read (now (line .entry)) r (fileIn (fieldsFrom (now (line .entry)) start)) ⌝ }
+    ensures { λ r. ⌜ Read (now (line .entry)) r (fileLine (fieldsFrom (now (line .entry)) start)) ⌝ }
 {
     let n = line.len();
     let submitter = text_end(line, 2);
@@ -161,7 +161,7 @@ fn file(line: &[u8]) -> Line
 // `E,actor,category,date,step`
 fn engagement(line: &[u8]) -> Line
     requires { ⌜ (start ≤ length (now line)) × (length (now line) ≤ lineMost) ⌝ }
-    ensures { λ r. ⌜ Read (now (line .entry)) r (engagementIn (fieldsFrom (now (line .entry)) start)) ⌝ }
+    ensures { λ r. ⌜ Read (now (line .entry)) r (engagementLine (fieldsFrom (now (line .entry)) start)) ⌝ }
 {
     let n = line.len();
     let actor = text_end(line, 2);
@@ -201,7 +201,7 @@ fn engagement(line: &[u8]) -> Line
 // `R,asker,id`
 fn record_of(line: &[u8]) -> Line
     requires { ⌜ (start ≤ length (now line)) × (length (now line) ≤ lineMost) ⌝ }
-    ensures { λ r. ⌜ Read (now (line .entry)) r (recordIn (fieldsFrom (now (line .entry)) start)) ⌝ }
+    ensures { λ r. ⌜ Read (now (line .entry)) r (recordLine (fieldsFrom (now (line .entry)) start)) ⌝ }
 {
     let n = line.len();
     let asker = text_end(line, 2);
@@ -229,7 +229,7 @@ fn record_of(line: &[u8]) -> Line
 // `L,actor,category,date,approved,` then one power or more
 fn load(line: &[u8]) -> Line
     requires { ⌜ (start ≤ length (now line)) × (length (now line) ≤ lineMost) ⌝ }
-    ensures { λ r. ⌜ Read (now (line .entry)) r (loadIn (fieldsFrom (now (line .entry)) start)) ⌝ }
+    ensures { λ r. ⌜ Read (now (line .entry)) r (loadLine (fieldsFrom (now (line .entry)) start)) ⌝ }
 {
     let n = line.len();
     let actor = text_end(line, 2);

@@ -10,7 +10,7 @@ use Rattle.answers.specs.Values.{saidRefusal}
 use Rattle.register.specs.View.{Register}
 use Rattle.register.specs.Written.{does}
 use Rattle.register.specs.Told.{told, tells}
-use Rattle.script.specs.Lines.{filing, fields, categoryIn, fileIn, byLetter, lineOf}
+use Rattle.script.specs.Lines.{filing, fields, categoryLine, fileLine, byLetter, lineOf}
 use Rattle.session.specs.Lines.{onlyAsks, askStep, lineStep}
 
 -- `Z`, `C,` with 511 bytes more, and `F,X,Y`
@@ -20,8 +20,8 @@ noForm = 90 ∷ []
 abbrev tooLong : List ℕ
 tooLong = 67 ∷ 44 ∷ replicate 511 49
 
-abbrev fileLine : List ℕ
-fileLine = 70 ∷ 44 ∷ 88 ∷ 44 ∷ 89 ∷ []
+abbrev fileOfXY : List ℕ
+fileOfXY = 70 ∷ 44 ∷ 88 ∷ 44 ∷ 89 ∷ []
 
 pub record Eleven (r : Register) (l : Ledger) (readable : Bool) (body : List ℕ) : Type 0 where
   -- "of no known form", whether a file could be read or not
@@ -31,11 +31,11 @@ pub record Eleven (r : Register) (l : Ledger) (readable : Bool) (body : List ℕ
   -- the same where lines that only ask are answered
   pub only-asked : (onlyAsks (lineOf noForm) ≡ true) × (askStep l (lineOf noForm) ≡ saidRefusal 11 0)
   -- "a file that can't be read", and one that can: its body is filed
-  pub no-file : lineStep r false body (lineOf fileLine) ≡ tells r (saidRefusal 11 0)
-  pub a-file : lineStep r true body (lineOf fileLine) ≡ told (does r (filing (88 ∷ []) (89 ∷ []) body))
+  pub no-file : lineStep r false body (lineOf fileOfXY) ≡ tells r (saidRefusal 11 0)
+  pub a-file : lineStep r true body (lineOf fileOfXY) ≡ told (does r (filing (88 ∷ []) (89 ∷ []) body))
 
 pub eleven : (r : Register) (l : Ledger) (readable : Bool) (body : List ℕ) → Eleven r l readable body
-unfolding fields categoryIn fileIn byLetter lineOf onlyAsks askStep lineStep
+unfolding fields categoryLine fileLine byLetter lineOf onlyAsks askStep lineStep
 eleven r l readable body =
     record {
       no-form = refl;
