@@ -1,5 +1,5 @@
 -- What holds of the lines of a script.
-pub mod Breaks
+pub mod LineEnds
 pub mod Fronts
 pub mod Names
 pub mod Walks

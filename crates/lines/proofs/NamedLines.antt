@@ -7,14 +7,14 @@ use native.Mathlib.Omega.{arith}
 use lib.Dec.{eqb, leb, ltb}
 use lib.ListN.{length, getD, drop}
 use borrow.Author.Tests.{eqb-true, eqb-false, leb-true, leb-false, ltb-true, ltb-false}
-use Rattle.lists.specs.Searches.{placeOf}
+use Rattle.lists.specs.Searches.{placeOf, isByte, byteFrom}
 use Rattle.lists.proofs.Tests.{by-test}
 use Rattle.script.specs.Lines.{Asked, unknown, comma, lineOf, fileLine}
 use Rattle.script.specs.Fields.{fieldsFrom}
 use Rattle.script.specs.Spans.{start, asked, Read}
-use Rattle.script.specs.Walking.{isComma, FieldEnd}
+use Rattle.script.specs.Walking.{FieldEnd}
 use Rattle.script.specs.declared.reading.Kind.the-variants.{Files}
-use Rattle.script.proofs.Parting.{field-end}
+use Rattle.script.proofs.Parting.{field-ends}
 use Rattle.script.proofs.LineKinds.{plain, noLine, file-short, file-long, file-good}
 use Rattle.script.proofs.Letters.{line-long, line-short, line-unparted, line-with, letter-f}
 use Rattle.lines.specs.Walking.{nameAt, wanted, NamedIn}
@@ -30,21 +30,19 @@ unfolding asked
 unread line b e p = unnamed line (p .says ∙ sym e)
 
 -- the end of the field that starts at a place
-ends-at : (line : List ℕ) (from : ℕ) → from ≤ length line → FieldEnd line from (from + placeOf isComma (drop from line))
-ends-at line from h =
-    let p = placeOf isComma (drop from line) in
-    let e : from + p - from ≡ p = omega arith in
-    field-end line from (from + p) h (omega arith) e
+ends-at : (line : List ℕ) (from : ℕ) → from ≤ length line → FieldEnd line from (from + placeOf (isByte comma) (drop from line))
+unfolding byteFrom
+ends-at line from h = field-ends line h refl
 
 -- a line that begins with F and a comma
 named-f : (line : List ℕ) → start ≤ length line → lineOf line ≡ fileLine (fieldsFrom line start) → 0 < nameAt line → NamedIn line (nameAt line)
 named-f line h e k =
-    let a = start + placeOf isComma (drop start line) in
+    let a = start + placeOf (isByte comma) (drop start line) in
     let pa = ends-at line start h in
     by-test (ltb a (length line))
     (λ t.
     let i = ltb-true a (length line) t in
-    let b = a + 1 + placeOf isComma (drop (a + 1) line) in
+    let b = a + 1 + placeOf (isByte comma) (drop (a + 1) line) in
     let pb = ends-at line (a + 1) (omega (arith, i)) in
     by-test (ltb b (length line))
     (λ u. absurd (omega (arith, k, unread line _ e (file-long line a pa b pb (ltb-true b (length line) u)))))

@@ -4,7 +4,7 @@ ghost use Prim.Native.Nat.{_≤_};
 ghost use lib.ListN.{length};
 ghost use lib.Seq.{sets};
 ghost use Rattle.lines.specs.Walking.{heldOf, ended, endedAt};
-use script::parts::least;
+use lists::numbers::least_length;
 
 // The most bytes of a line, and one more. A line that is too long stays so when the rest of it is forgotten.
 const HELD: usize = 513;
@@ -14,7 +14,7 @@ pub fn hold(input: &mut [u8], from: usize, to: usize) -> usize
     ensures { λ r. ⌜ (now (input .exit) ≡ sets (now (input .entry)) 0 (heldOf (now (input .entry)) from to))
         × (r ≡ length (heldOf (now (input .entry)) from to)) × (r ≤ 513) × (r ≤ length (now (input .entry))) ⌝ }
 {
-    let end = least(to, input.len());
+    let end = least_length(to, input.len());
     let mut n: usize = 0;
     while n < HELD {
         if end <= from {

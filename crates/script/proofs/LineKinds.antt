@@ -8,14 +8,14 @@ use native.Mathlib.Omega.{arith}
 use lib.Dec.{ltb}
 use lib.ListN.{length, take, drop}
 use borrow.Author.Tests.{lt-ltb, le-ltb}
-use Rattle.lists.specs.Searches.{placeOf}
+use Rattle.lists.specs.Searches.{placeOf, isByte}
 use Rattle.lists.proofs.Tests.{true-false, and-right}
 use Rattle.calendar.specs.Dates.{dayCount}
 use Rattle.script.specs.Numbers.{numberEnd, isNumber, valueOf, dayIn, isDay}
-use Rattle.script.specs.Lines.{Asked, unknown, fields, advanceLine, enrolLine, categoryLine, fileLine, engagementLine, recordLine}
+use Rattle.script.specs.Lines.{Asked, unknown, comma, fields, advanceLine, enrolLine, categoryLine, fileLine, engagementLine, recordLine}
 use Rattle.script.specs.Fields.{fieldsFrom, numberIn}
 use Rattle.script.specs.Spans.{cut, start, namesFile, asked, Read}
-use Rattle.script.specs.Walking.{isComma, FieldEnd}
+use Rattle.script.specs.Walking.{FieldEnd}
 use Rattle.script.specs.declared.reading.CallKind.the-variants.{Advance, EnrolActor, EnrolCategory}
 use Rattle.script.specs.declared.reading.Kind.{Kind}
 use Rattle.script.specs.declared.reading.Kind.the-variants.{Calls, Files, Engagement, RecordOf, Unknown}
@@ -41,7 +41,7 @@ unknown-as line a e = read-as line noLine a refl e
 
 -- the fields after one that ends before the end of the line, and after one that ends there
 pub some-after : (line : List ℕ) (end : ℕ) → end < length line
-    → fieldsFrom line (end + 1) ≡ take (placeOf isComma (drop (end + 1) line)) (drop (end + 1) line) ∷ restAt (drop (end + 1) line) (placeOf isComma (drop (end + 1) line))
+    → fieldsFrom line (end + 1) ≡ take (placeOf (isByte comma) (drop (end + 1) line)) (drop (end + 1) line) ∷ restAt (drop (end + 1) line) (placeOf (isByte comma) (drop (end + 1) line))
 some-after line end h = from-inside line (end + 1) (omega arith) ∙ fields-parted (drop (end + 1) line)
 
 pub none-after : (line : List ℕ) (end : ℕ) → length line ≤ end → fieldsFrom line (end + 1) ≡ []

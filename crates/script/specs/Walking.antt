@@ -1,18 +1,13 @@
 -- How a line is walked, field by field: what the functions inside say.
 use mathlib.Core.Path.{_≡_}
-use mathlib.Core.Bool.{Bool, cond}
+use mathlib.Core.Bool.{cond}
 use mathlib.Core.List.{List, _∷_}
 use Prim.Native.Nat.{ℕ, _+_, _≤_}
-use lib.Dec.{eqb}
 use lib.ListN.{length}
 use Rattle.lists.specs.Searches.{every}
 use Rattle.script.specs.Numbers.{isNumber}
-use Rattle.script.specs.Lines.{comma}
 use Rattle.script.specs.Fields.{fieldsFrom}
 use Rattle.script.specs.Spans.{cut}
-
-abbrev pub isComma : ℕ → Bool
-isComma b = eqb b comma
 
 -- where the field that starts at a place ends: it is the line's span up to there, and the other fields start after it
 pub record FieldEnd (line : List ℕ) (from end : ℕ) : Type 0 where

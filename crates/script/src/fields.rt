@@ -1,15 +1,16 @@
 // The fields of a line: where they end, and what those that are dates or numbers stand for.
 ghost use mathlib.Core.Path.{_≡_};
-ghost use mathlib.Core.Bool.{false};
-ghost use Prim.Native.Nat.{_+_, _*_, _≤_, _<_};
+ghost use Prim.Native.Nat.{_+_, _*_, _≤_};
 ghost use lib.ListN.{length};
-ghost use Rattle.lists.specs.Searches.{placeOf};
 ghost use Rattle.script.specs.Numbers.{dayIn};
 ghost use Rattle.script.specs.Fields.{fieldsFrom, numberIn};
-ghost use Rattle.script.specs.Walking.{isComma, FieldEnd, countIn};
+ghost use Rattle.script.specs.Walking.{FieldEnd, countIn};
 use calendar::DAYS;
 use calendar::Day;
 use calendar::day_of;
+use lists::bytes::byte_from;
+use lists::bytes::far_byte_from;
+use lists::bytes::has_byte;
 
 // The least number that has more than five digits: what stands for a text that is no number.
 pub(crate) const NUMBER_END: u32 = 100000;
@@ -19,49 +20,15 @@ pub(crate) fn field_end(line: &[u8], from: usize) -> usize
     requires { ⌜ from ≤ length (now line) ⌝ }
     ensures { λ r. ⌜ FieldEnd (now (line .entry)) from r ⌝ }
 {
-    let mut i = from;
-    while i < line.len() {
-        if line[i] == b',' {
-            return i;
-        }
-        i += 1;
-    }
-    i
+    byte_from(line, from, b',')
 }
 
-// Whether a byte is a comma. Each byte is looked at, so that many are compared at once.
-fn has_comma(s: &[u8]) -> bool
-    ensures { λ r. ⌜ (r ≡ false → length (now (s .entry)) ≤ placeOf isComma (now (s .entry))) ⌝ }
-{
-    let mut found = false;
-    let mut i: usize = 0;
-    while i < s.len() {
-        found = (s[i] == b',') | found;
-        i += 1;
-    }
-    found
-}
-
-// Where a field that may be long ends: of its bytes, sixteen are passed at once where none is a comma.
+// Where a field that may be long ends.
 pub(crate) fn text_end(line: &[u8], from: usize) -> usize
     requires { ⌜ from ≤ length (now line) ⌝ }
     ensures { λ r. ⌜ FieldEnd (now (line .entry)) from r ⌝ }
 {
-    let mut i = from;
-    while 16 <= line.len() - i {
-        let next = i + 16;
-        if has_comma(&line[i..next]) {
-            break;
-        }
-        i = next;
-    }
-    while i < line.len() {
-        if line[i] == b',' {
-            return i;
-        }
-        i += 1;
-    }
-    i
+    far_byte_from(line, from, b',')
 }
 
 // Where a field that is likely a date ends: its eight bytes are passed at once where none is a comma.
@@ -69,20 +36,13 @@ pub(crate) fn date_end(line: &[u8], from: usize) -> usize
     requires { ⌜ from ≤ length (now line) ⌝ }
     ensures { λ r. ⌜ FieldEnd (now (line .entry)) from r ⌝ }
 {
-    let mut i = from;
     if 8 <= line.len() - from {
         let next = from + 8;
-        if !has_comma(&line[from..next]) {
-            i = next;
+        if !has_byte(&line[from..next], b',') {
+            return byte_from(line, next, b',');
         }
     }
-    while i < line.len() {
-        if line[i] == b',' {
-            return i;
-        }
-        i += 1;
-    }
-    i
+    byte_from(line, from, b',')
 }
 
 // The day of a date; the number of days where a text is no date.

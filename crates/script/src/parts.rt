@@ -1,25 +1,19 @@
 // The parts of a line that was read: its texts and its powers.
 ghost use mathlib.Core.Path.{_≡_};
-ghost use Prim.Native.Nat.{min, _≤_};
+ghost use Prim.Native.Nat.{_≤_};
 ghost use lib.ListN.{length, take};
 ghost use Rattle.script.specs.Spans.{cut, firstText, secondText, powersOf};
 use crate::fields::field_end;
 use crate::fields::number_in;
 use crate::reading::Line;
-
-// The lesser of two numbers.
-pub fn least(a: usize, b: usize) -> usize
-    ensures { λ r. ⌜ r ≡ min a b ⌝ }
-{
-    if a < b { a } else { b }
-}
+use lists::numbers::least_length;
 
 // The part of a line from a place to before another, as far as it lies in the line.
 fn part(line: &[u8], from: usize, to: usize) -> &[u8]
     ensures { λ r. ⌜ now r ≡ cut (now (line .entry)) from to ⌝ }
 {
-    let end = least(to, line.len());
-    let start = least(from, end);
+    let end = least_length(to, line.len());
+    let start = least_length(from, end);
     &line[start..end]
 }
 
@@ -46,7 +40,7 @@ pub fn powers_of(line: &[u8], read: Line) -> Powers
     ensures { λ r. ⌜
         (take (r .count) (r .numbers) ≡ powersOf (now (line .entry)) read) × (r .count ≤ length (r .numbers)) ⌝ }
 {
-    let most = least(read.count as usize, 256);
+    let most = least_length(read.count as usize, 256);
     let mut numbers = [0u32; 256];
     let mut count: usize = 0;
     let mut at = read.from as usize;

@@ -1,63 +1,14 @@
--- As long as the loop runs, no byte passed is LF.
+-- The search for LF ends where the line ends.
 use borrow.Author.Needs.{needs}
-use mathlib.Core.Bool.{true}
-use mathlib.Core.Path.{_≡_}
-use Prim.Native.Nat.{_-_, _≤_}
-use native.Mathlib.Omega.{arith}
-use lib.ListN.{length, take, drop}
-use Rattle.lists.specs.Searches.{every}
-use Rattle.reader.proofs.Ends.{more-in}
-use Rattle.notification.proofs.Lines.{inLine}
+use Rattle.lines.proofs.LineEnds.{line-ends}
 use Rattle.lines.proofs.ends.line_end.Statement.{statement}
 use Rattle.lines.proofs.ends.line_end.Tie as tie
 
-abbrev Inv-loop : tie.InvT-loop
-Inv-loop s from i₀ i = (from ≤ i) × (i ≤ length s) × (every inLine (take (i - from) (drop from s)) ≡ true)
+far-byte-from-requires : tie.Need-far-byte-from-requires
+far-byte-from-requires c κs = search needs
 
-abbrev μ-loop : tie.MeasureT-loop
-μ-loop s from i₀ i = length s - i
-
-near-end-requires : tie.Need-near-end-requires Inv-loop μ-loop
-near-end-requires c κs = search needs
-
-loop-holds : tie.Need-loop-holds Inv-loop μ-loop
-loop-holds c = c .near-end .ensures
-
-shared-slice-read-if1 : tie.Need-shared-slice-read-if1 Inv-loop μ-loop
-shared-slice-read-if1 c = search needs
-
-returns : tie.Need-returns Inv-loop μ-loop
-returns c =
-    let inv = c .before .before .before .loop .inv in
-    record { after = inv .0; within = inv .1; no-break = inv .2; a-break = λ h. c .if1 .taken }
-
-add-i : tie.Need-add-i Inv-loop μ-loop
-add-i c = search needs
-
-loop-less : tie.Need-loop-less Inv-loop μ-loop
-loop-less c = search needs
-
-loop-again : tie.Need-loop-again Inv-loop μ-loop
-loop-again c =
-    let inv = c .before .before .before .loop .inv in
-    (omega arith, omega arith, more-in (c .before .before .before .before .before .before .args .s .now) (c .before .before .before .before .before .before .args .from) (c .before .before .before .loop .i) (inv .0) (c .before .before .loop-test .taken) (c .if1 .left) (inv .2))
-
-returns-2 : tie.Need-returns-2 Inv-loop μ-loop
-returns-2 c =
-    let inv = c .before .loop .inv in
-    record { after = inv .0; within = inv .1; no-break = inv .2; a-break = λ h. absurd (omega arith) }
+returns : tie.Need-returns
+returns c = line-ends _ (c .before .before .pre) (c .far-byte-from .ensures)
 
 pub line-end-spec : {M : Type 1} → statement M
-line-end-spec =
-    tie.close
-    (tie.spec
-    Inv-loop
-    μ-loop
-    near-end-requires
-    loop-holds
-    shared-slice-read-if1
-    returns
-    add-i
-    loop-less
-    loop-again
-    returns-2)
+line-end-spec = tie.close (tie.spec far-byte-from-requires returns)

@@ -16,11 +16,11 @@ Inv-loop input₀ from to end n₀ input n =
 abbrev μ-loop : tie.MeasureT-loop
 μ-loop input₀ from to end n₀ input n = 513 - n
 
-least-requires : tie.Need-least-requires Inv-loop μ-loop
-least-requires c κs = search needs
+least-length-requires : tie.Need-least-length-requires Inv-loop μ-loop
+least-length-requires c κs = search needs
 
 loop-holds : tie.Need-loop-holds Inv-loop μ-loop
-loop-holds c = (omega arith, omega arith, c .least .ensures, refl, refl)
+loop-holds c = (omega arith, omega arith, c .least-length .ensures, refl, refl)
 
 same-length : tie.Need-same-length Inv-loop μ-loop
 same-length c = c .before .before .loop .inv .4
@@ -83,7 +83,7 @@ hold-spec =
     (tie.spec
     Inv-loop
     μ-loop
-    least-requires
+    least-length-requires
     loop-holds
     same-length
     returns

@@ -14,17 +14,17 @@ Inv-loop line most numbers₀ count₀ at₀ numbers count at = Taking line at�
 abbrev μ-loop : tie.MeasureT-loop
 μ-loop line most numbers₀ count₀ at₀ numbers count at = length line + 1 - at
 
-cast-least : tie.Need-cast-least Inv-loop μ-loop
-cast-least c = search needs
+cast-least-length : tie.Need-cast-least-length Inv-loop μ-loop
+cast-least-length c = search needs
 
-least-requires : tie.Need-least-requires Inv-loop μ-loop
-least-requires c κs = search needs
+least-length-requires : tie.Need-least-length-requires Inv-loop μ-loop
+least-length-requires c κs = search needs
 
 cast-at : tie.Need-cast-at Inv-loop μ-loop
 cast-at c = search needs
 
 loop-holds : tie.Need-loop-holds Inv-loop μ-loop
-loop-holds c = taking-none _ _ _ _ _ (c .before .least .ensures) refl
+loop-holds c = taking-none _ _ _ _ _ (c .before .least-length .ensures) refl
 
 field-end-requires : tie.Need-field-end-requires Inv-loop μ-loop
 field-end-requires c κs = taking-goes (c .before .loop .inv) (c .loop-test .taken) .1
@@ -68,7 +68,7 @@ loop-again c =
 returns : tie.Need-returns Inv-loop μ-loop
 returns c =
     let i = c .before .loop .inv in
-    (taking-all i (c .loop-test .left) ∙ powers-taken _ _ (c .before .before .before .least .ensures), omega (arith, i .few, i .most, i .places))
+    (taking-all i (c .loop-test .left) ∙ powers-taken _ _ (c .before .before .before .least-length .ensures), omega (arith, i .few, i .most, i .places))
 
 pub powers-of-spec : {M : Type 1} → statement M
 powers-of-spec =
@@ -76,8 +76,8 @@ powers-of-spec =
     (tie.spec
     Inv-loop
     μ-loop
-    cast-least
-    least-requires
+    cast-least-length
+    least-length-requires
     cast-at
     loop-holds
     field-end-requires
