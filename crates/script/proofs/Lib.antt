@@ -2,6 +2,7 @@
 pub mod Examples
 pub mod Parting
 pub mod Numerals
+pub mod Spelling
 pub mod Powers
 pub mod Cuts
 pub mod LineKinds

@@ -1,13 +1,13 @@
 -- A text is a number where its length is right, no zero is needless, and each byte is a digit; its value is taken digit by digit.
 use mathlib.Core.Path.{_≡_, refl, sym, ap, _∙_}
 use mathlib.Core.Bool.{Bool, true, false, cond, not, _&&_, _||_}
-use mathlib.Core.List.{List, [], _∷_}
+use mathlib.Core.List.{List, [], _∷_, _++_}
 use Prim.Native.Nat.{ℕ, zero, suc, _+_, _-_, _*_, _^_, _<_, _≤_}
 use native.Mathlib.Nat.{add-zero, pow-le-pow-right}
 use native.Mathlib.Numerals.{add-one}
 use native.Mathlib.Omega.{arith}
 use lib.Dec.{eqb, ltb, leb}
-use lib.ListN.{length, getD, take, drop}
+use lib.ListN.{length, getD, take, drop, length-append, List·getD-append}
 use lib.Seq.{drop-cons, drop-length}
 use borrow.Author.Tests.{leb-true, lt-ltb, le-ltb, le-leb, lt-leb, eq-eqb, ne-eqb}
 use Rattle.lists.specs.Searches.{every}
@@ -157,3 +157,33 @@ number-test s =
     by-test (isNumber s)
     (λ t. lt-ltb (numberIn s) numberEnd (number-small s t) ∙ sym t)
     (λ t. rw (t, none-end s t))
+
+-- ---- one digit more
+
+pub or-right : (t : Bool) → (t || true) ≡ true
+or-right true = refl
+or-right false = refl
+
+pub value-end : (v : ℕ) (s : List ℕ) (b : ℕ) → valueFrom v (s ++ b ∷ []) ≡ valueFrom v s * 10 + (b - 48)
+unfolding valueFrom
+value-end v [] b = refl
+value-end v (x ∷ s) b = value-end (v * 10 + (x - 48)) s b
+
+pub every-end : (s : List ℕ) (b : ℕ) → every digit s ≡ true → digit b ≡ true → every digit (s ++ b ∷ []) ≡ true
+every-end [] b e d = rw d
+every-end (x ∷ s) b e d = go (digit x) e (every-end s b)
+  where
+    go : (t : Bool) → (t && every digit s) ≡ true → (every digit s ≡ true → digit b ≡ true → every digit (s ++ b ∷ []) ≡ true)
+        → (t && every digit (s ++ b ∷ [])) ≡ true
+    go true e ih = ih e d
+    go false e ih = e
+
+pub number-more : (s : List ℕ) (b : ℕ) → isNumber s ≡ true → length s < mostDigits → (getD s 0 0 ≡ 48 → ⊥) → digit b ≡ true → isNumber (s ++ b ∷ []) ≡ true
+unfolding isNumber
+number-more s b e h ne d =
+    let p = number-parts s e in
+    let l = length-append s (b ∷ []) in
+    let f : getD (s ++ b ∷ []) 0 0 ≡ getD s 0 0 = List·getD-append s (b ∷ []) 0 0 (p .0) in
+    let z : eqb (getD (s ++ b ∷ []) 0 0) 48 ≡ false = rw f (ne-eqb (getD s 0 0) 48 ne) in
+    let n : needed (s ++ b ∷ []) ≡ true = rw z (or-right (eqb (length (s ++ b ∷ [])) 1)) in
+    rw (le-leb 1 (length (s ++ b ∷ [])) (omega arith), le-leb (length (s ++ b ∷ [])) mostDigits (omega arith), n) (every-end s b (p .2) d)

@@ -6,18 +6,20 @@ use Prim.Native.Nat.{ℕ, suc, _+_, _-_, _*_, _<_, _≤_, min}
 use native.Mathlib.Numerals.{add-one}
 use native.Mathlib.Omega.{arith}
 use lib.Dec.{leb, ltb}
-use lib.ListN.{length, set, take, drop, length-take, length-set}
-use lib.Seq.{take-nil, take-suc-set}
-use borrow.Author.Tests.{lt-ltb, le-ltb, ltb-true, ltb-false, leb-true, leb-false}
+use lib.ListN.{length, set, take, drop, replicate, length-append, length-take, length-set, take-append-drop}
+use lib.Seq.{take-nil, take-at, take-suc-set, drop-set-lt, drop-drop, length-take-le}
+use borrow.Author.Tests.{ltb-true, ltb-false, leb-true, leb-false}
 use Rattle.lists.specs.Searches.{every}
 use Rattle.lists.proofs.Tests.{by-test, and-left, and-right, right-false}
-use Rattle.script.specs.Numbers.{numberEnd, isNumber, valueOf}
+use Rattle.script.specs.Numbers.{isNumber, valueOf}
 use Rattle.script.specs.Fields.{fieldsFrom, numberIn}
-use Rattle.script.specs.Spans.{cut, powerPlaces, powersOf}
-use Rattle.script.specs.Walking.{FieldEnd, countIn}
+use Rattle.script.specs.Spans.{cut, powerPlaces, powersOf, powersRead}
+use Rattle.script.specs.Walking.{NumberRead, countIn}
 use Rattle.script.specs.declared.reading.Line.{Line}
+use Rattle.script.specs.declared.fields.Numeral.{Numeral}
+use Rattle.script.specs.declared.parts.Powers.{Powers}
 use Rattle.script.proofs.Parting.{from-past}
-use Rattle.script.proofs.Numerals.{number-parts, number-value, number-test}
+use Rattle.script.proofs.Numerals.{number-parts, number-value}
 
 -- so far: the fields counted are numbers, and those that are left decide
 pub record Counted (line : List ℕ) (from at count : ℕ) : Type 0 where
@@ -32,29 +34,27 @@ counted-none line from h = record { inside = omega arith; room = omega arith; ma
 cut-length : (line : List ℕ) (from end : ℕ) → length (cut line from end) ≤ end - from
 cut-length line from end = omega (arith, length-take (end - from) (drop from line))
 
-module _ (line : List ℕ) (from at count end : ℕ) (c : Counted line from at count) (f : FieldEnd line at end) where
-  pub counted-bad : (v : ℕ) → v ≡ numberIn (cut line at end) → numberEnd ≤ v → 0 ≡ countIn (fieldsFrom line from)
+module _ {line : List ℕ} {from at count : ℕ} (c : Counted line from at count) {r : Numeral} (f : NumberRead line at r) where
+  pub counted-bad : r .good ≡ false → 0 ≡ countIn (fieldsFrom line from)
   unfolding countIn
-  counted-bad v q k =
-      let h = rw q at k in
-      let n : isNumber (cut line at end) ≡ false = sym (number-test (cut line at end)) ∙ le-ltb (numberIn (cut line at end)) numberEnd h in
-      let e : every isNumber (fieldsFrom line from) ≡ false = sym (c .decides) ∙ (rw (f .parts, n)) in
+  counted-bad k =
+      let n : isNumber (cut line at (r .end)) ≡ false = sym (f .good) ∙ k in
+      let e : every isNumber (fieldsFrom line from) ≡ false = sym (c .decides) ∙ (rw (f .ends .parts, n)) in
       rw e
 
-  pub counted-more : (v : ℕ) → v ≡ numberIn (cut line at end) → v < numberEnd → Counted line from (end + 1) (count + 1)
-  counted-more v q k =
-      let h = rw q at k in
-      let n : isNumber (cut line at end) ≡ true = sym (number-test (cut line at end)) ∙ lt-ltb (numberIn (cut line at end)) numberEnd h in
-      let p = number-parts (cut line at end) n in
-      let l = cut-length line at end in
-      let m = rw (f .parts) at (c .many) in
-      let i = f .inside in
-      let r = c .room in
+  pub counted-more : r .good ≡ true → Counted line from (r .end + 1) (count + 1)
+  counted-more k =
+      let n : isNumber (cut line at (r .end)) ≡ true = sym (f .good) ∙ k in
+      let p = number-parts (cut line at (r .end)) n in
+      let l = cut-length line at (r .end) in
+      let m = rw (f .ends .parts) at (c .many) in
+      let i = f .ends .inside in
+      let o = c .room in
       record {
         inside = omega arith;
         room = omega (arith, p .0);
         many = omega arith;
-        decides = rw (f .parts, n) at (c .decides);
+        decides = rw (f .ends .parts, n) at (c .decides);
       }
 
 pub counted-all : (line : List ℕ) (from at count : ℕ) → length line < at → Counted line from at count → count ≡ countIn (fieldsFrom line from)
@@ -85,27 +85,30 @@ pub record Taking (line : List ℕ) (from m at count : ℕ) (numbers : List ℕ)
   pub few : count ≤ m
   pub most : m ≤ powerPlaces
   pub places : length numbers ≡ powerPlaces
+  pub zeros : drop count numbers ≡ replicate (powerPlaces - count) 0
   pub holds : take count numbers ++ take (m - count) (map numberIn (fieldsFrom line at)) ≡ take m (map numberIn (fieldsFrom line from))
 
-pub taking-none : (line : List ℕ) (from count m : ℕ) (numbers : List ℕ) → m ≡ min count powerPlaces → length numbers ≡ powerPlaces → Taking line from m from 0 numbers
-taking-none line from count m numbers e h =
+pub taking-none : (line : List ℕ) (from count m : ℕ) → m ≡ min count powerPlaces → Taking line from m from 0 (replicate powerPlaces 0)
+taking-none line from count m e =
     let z : m - 0 ≡ m = omega arith in
-    record { few = omega arith; most = omega (arith, e); places = h; holds = rw z refl }
+    record { few = omega arith; most = omega (arith, e); places = refl; zeros = refl; holds = rw z refl }
 
 module _ {line : List ℕ} {from m at count : ℕ} {numbers : List ℕ} (t : Taking line from m at count numbers) where
   pub taking-goes : (ltb count m && leb at (length line)) ≡ true → (count < m) × (at ≤ length line)
   taking-goes e =
       (ltb-true count m (and-left (ltb count m) (leb at (length line)) e), leb-true at (length line) (and-right (ltb count m) (leb at (length line)) e))
 
-  pub taking-more : {end v : ℕ} → count < m → FieldEnd line at end → v ≡ numberIn (cut line at end) → Taking line from m (end + 1) (count + 1) (set numbers count v)
-  taking-more {end} {v} h f q =
+  pub taking-more : {r : Numeral} → count < m → NumberRead line at r → Taking line from m (r .end + 1) (count + 1) (set numbers count (r .value))
+  taking-more {r} h f =
       let s : m - count ≡ suc (m - (count + 1)) = omega arith in
       let k : count < length numbers = omega (arith, t .places, t .most) in
+      let l : powerPlaces - count ≡ suc (powerPlaces - (count + 1)) = omega (arith, t .most) in
       record {
         few = omega arith;
         most = t .most;
         places = length-set numbers count _ ∙ t .places;
-        holds = rw (add-one count, take-suc-set numbers count v k, append-assoc, q) (rw (f .parts, s, add-one count) at (t .holds));
+        zeros = drop-set-lt (count + 1) numbers count (r .value) (omega arith) ∙ sym (drop-drop 1 count numbers) ∙ ap (drop 1) (t .zeros) ∙ rw l refl;
+        holds = rw (add-one count, take-suc-set numbers count (r .value) k, append-assoc, f .value) (rw (f .ends .parts, s, add-one count) at (t .holds));
       }
 
   pub taking-all : (ltb count m && leb at (length line)) ≡ false → take count numbers ≡ take m (map numberIn (fieldsFrom line from))
@@ -117,6 +120,23 @@ module _ {line : List ℕ} {from m at count : ℕ} {numbers : List ℕ} (t : Tak
       (λ c. let z : m - count ≡ 0 = omega (arith, ltb-false count m c) in rw z refl))
       ∙ t .holds)
 
-pub powers-taken : (line : List ℕ) (r : Line) {m : ℕ} → m ≡ min (r .count) powerPlaces → take m (map numberIn (fieldsFrom line (r .from))) ≡ powersOf line r
-unfolding powersOf
-powers-taken line r e = rw e refl
+abbrev powersOn : ℕ → List ℕ → Powers
+powersOn count numbers = record { count = count; numbers = numbers }
+
+-- those that were put, with the zeros behind them, are all that is handed on
+pub taking-read : (line : List ℕ) (r : Line) {m at count : ℕ} {numbers : List ℕ} → m ≡ min (r .count) powerPlaces → Taking line (r .from) m at count numbers
+    → (ltb count m && leb at (length line)) ≡ false → powersOn count numbers ≡ powersRead line r
+unfolding powersOf powersRead
+taking-read line r {m} {at} {count} {numbers} e t k =
+    let p : take count numbers ≡ powersOf line r = taking-all t k ∙ rw e refl in
+    let n : count ≡ length (powersOf line r) = sym (length-take-le count numbers (omega (arith, t .few, t .most, t .places))) ∙ ap length p in
+    let q : numbers ≡ powersOf line r ++ replicate (powerPlaces - length (powersOf line r)) 0 =
+    sym (take-append-drop count numbers) ∙ ap₂ _++_ p (t .zeros ∙ ap (λ (i : ℕ). replicate (powerPlaces - i) 0) n) in
+    ap₂ powersOn n q
+
+-- what is handed on begins with the powers
+pub powers-first : (line : List ℕ) (r : Line) {p : Powers} → p ≡ powersRead line r → (take (p .count) (p .numbers) ≡ powersOf line r) × (p .count ≤ length (p .numbers))
+unfolding powersRead
+powers-first line r e =
+    let powers = powersOf line r in
+    rw e (take-at powers (replicate (powerPlaces - length powers) 0) (length powers) refl, rw length-append (omega arith))

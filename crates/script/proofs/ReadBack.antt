@@ -11,12 +11,8 @@ use Rattle.lists.specs.Searches.{every}
 use Rattle.lists.proofs.Tests.{by-test}
 use Rattle.calendar.specs.Texts.{digit, digitOf}
 use Rattle.script.specs.Numbers.{numberEnd, mostDigits, longest, needed, isNumber, valueFrom, valueOf, decimalIn, decimal}
+use Rattle.script.proofs.Numerals.{or-right, value-end, every-end}
 use Rattle.script.proofs.Decimals.{few, decimal-some, length-one}
-
-value-end : (v : ℕ) (s : List ℕ) (b : ℕ) → valueFrom v (s ++ b ∷ []) ≡ valueFrom v s * 10 + (b - 48)
-unfolding valueFrom
-value-end v [] b = refl
-value-end v (x ∷ s) b = value-end (v * 10 + (x - 48)) s b
 
 value-decimal : (k n : ℕ) → n < 10 ^ suc k → valueOf (decimalIn (suc k) n) ≡ n
 unfolding decimalIn valueFrom
@@ -30,15 +26,6 @@ value-decimal (suc k) n h =
 
 digit-of : (n : ℕ) → digit (digitOf n) ≡ true
 digit-of n = rw (le-leb 48 (48 + n % 10) (omega arith), le-leb (48 + n % 10) 57 (omega arith))
-
-every-end : (s : List ℕ) (b : ℕ) → every digit s ≡ true → digit b ≡ true → every digit (s ++ b ∷ []) ≡ true
-every-end [] b e d = rw d
-every-end (x ∷ s) b e d = go (digit x) e (every-end s b)
-  where
-    go : (t : Bool) → (t && every digit s) ≡ true → (every digit s ≡ true → digit b ≡ true → every digit (s ++ b ∷ []) ≡ true)
-        → (t && every digit (s ++ b ∷ [])) ≡ true
-    go true e ih = ih e d
-    go false e ih = e
 
 every-decimal : (k n : ℕ) → every digit (decimalIn k n) ≡ true
 unfolding decimalIn
@@ -67,10 +54,6 @@ first-digit (suc k) n h l e =
     let b : n / 10 < 10 ^ suc k = omega arith in
     let f = rw (t, List·getD-append (decimalIn (suc k) (n / 10)) (digitOf n ∷ []) 0 0 (some-decimal k (n / 10))) at e in
     first-digit k (n / 10) b (omega arith) f)
-
-or-right : (t : Bool) → (t || true) ≡ true
-or-right true = refl
-or-right false = refl
 
 pub read-back : (n : ℕ) → n < numberEnd → (isNumber (decimal n) ≡ true) × (valueOf (decimal n) ≡ n)
 unfolding isNumber

@@ -2,9 +2,9 @@
 -- from a place on.
 use mathlib.Core.Path.{_≡_}
 use mathlib.Core.Bool.{Bool, true, false}
-use mathlib.Core.List.{List, map}
+use mathlib.Core.List.{List, _++_, map}
 use Prim.Native.Nat.{ℕ, _+_, _-_, _<_, min}
-use lib.ListN.{length, take, drop}
+use lib.ListN.{length, take, drop, replicate}
 use Rattle.ledger.specs.Call as Call
 use Rattle.script.specs.Fields.{fieldsFrom, numberIn}
 use Rattle.script.specs.Lines.{Asked, calls, fileOf, engagement, recordOf, unknown}
@@ -13,6 +13,7 @@ use Rattle.script.specs.declared.reading.CallKind.the-variants.{Advance,
 use Rattle.script.specs.declared.reading.Kind.{Kind}
 use Rattle.script.specs.declared.reading.Kind.the-variants.{Calls, Files, Engagement, RecordOf, Unknown}
 use Rattle.script.specs.declared.reading.Line.{Line}
+use Rattle.script.specs.declared.parts.Powers.{Powers}
 
 -- the span of a line from a place to before another
 abbrev pub cut : List ℕ → ℕ → ℕ → List ℕ
@@ -36,6 +37,12 @@ powerPlaces = 256
 -- a line's powers: the numbers that the fields from a place on are, so many of them
 unfoldable pub powersOf : List ℕ → Line → List ℕ
 powersOf line r = take (min (r .count) powerPlaces) (map numberIn (fieldsFrom line (r .from)))
+
+-- the same as they are handed on: how many they are, and every place, zeros after the powers
+unfoldable pub powersRead : List ℕ → Line → Powers
+powersRead line r =
+    let powers = powersOf line r in
+    record { count = length powers; numbers = powers ++ replicate (powerPlaces - length powers) 0 }
 
 -- THE CALL that a line is, by its texts, its day, its number and its powers
 abbrev pub callOf : CallKind → List ℕ → List ℕ → ℕ → ℕ → List ℕ → Call.Call

@@ -4,7 +4,7 @@ ghost use Prim.Native.Nat.{_+_, _*_, _≤_};
 ghost use lib.ListN.{length};
 ghost use Rattle.script.specs.Numbers.{dayIn};
 ghost use Rattle.script.specs.Fields.{fieldsFrom, numberIn};
-ghost use Rattle.script.specs.Walking.{FieldEnd, countIn};
+ghost use Rattle.script.specs.Walking.{FieldEnd, Spelt, NumberRead, countIn};
 use calendar::DAYS;
 use calendar::Day;
 use calendar::day_of;
@@ -85,6 +85,89 @@ pub(crate) fn number_in(s: &[u8]) -> u32
     v
 }
 
+// A field that is a number or should be: whether it is one, which (100,000 where it is none), and where the field ends.
+pub(crate) struct Numeral {
+    pub good: bool,
+    pub value: u32,
+    pub end: usize,
+}
+
+// The field that starts at a place: it is searched for its comma, then read.
+fn parted_number(line: &[u8], from: usize) -> Numeral
+    requires { ⌜ from ≤ length (now line) ⌝ }
+    ensures { λ r. ⌜ NumberRead (now (line .entry)) from r ⌝ }
+{
+    let end = field_end(line, from);
+    let value = number_in(&line[from..end]);
+    Numeral {
+        good: value < NUMBER_END,
+        value,
+        end,
+    }
+}
+
+// The same, where the bytes before a place are digits that are a number: it ends there if a comma does.
+fn ended_number(line: &[u8], from: usize, value: u32, end: usize) -> Numeral
+    requires { ⌜ Spelt (now line) from value end ⌝ }
+    ensures { λ r. ⌜ NumberRead (now (line .entry)) from r ⌝ }
+{
+    if line[end] == b',' {
+        return Numeral {
+            good: true,
+            value,
+            end,
+        };
+    }
+    parted_number(line, from)
+}
+
+// What a digit stands for, and more than 9 where a byte is no digit.
+fn digit_value(b: u8) -> u32
+    ensures { λ r. ⌜ (r ≤ 9 → r + 48 ≡ b) ⌝ }
+{
+    if b < b'0' {
+        return b as u32 + 4294967248;
+    }
+    b as u32 - b'0' as u32
+}
+
+// The same again, in one pass over the digits where six bytes are left.
+pub(crate) fn number_from(line: &[u8], from: usize) -> Numeral
+    requires { ⌜ from ≤ length (now line) ⌝ }
+    ensures { λ r. ⌜ NumberRead (now (line .entry)) from r ⌝ }
+{
+    if line.len() - from < 6 {
+        return parted_number(line, from);
+    }
+    let one = digit_value(line[from]);
+    if 9 < one {
+        return parted_number(line, from);
+    }
+    let b = digit_value(line[from + 1]);
+    if 9 < b {
+        return ended_number(line, from, one, from + 1);
+    }
+    if one == 0 {
+        return parted_number(line, from);
+    }
+    let two = one * 10 + b;
+    let c = digit_value(line[from + 2]);
+    if 9 < c {
+        return ended_number(line, from, two, from + 2);
+    }
+    let three = two * 10 + c;
+    let d = digit_value(line[from + 3]);
+    if 9 < d {
+        return ended_number(line, from, three, from + 3);
+    }
+    let four = three * 10 + d;
+    let e = digit_value(line[from + 4]);
+    if 9 < e {
+        return ended_number(line, from, four, from + 4);
+    }
+    ended_number(line, from, four * 10 + e, from + 5)
+}
+
 // How many numbers the fields from a place on are; 0 where one of them is no number.
 pub(crate) fn count_in(line: &[u8], from: usize) -> usize
     requires { ⌜ from ≤ length (now line) ⌝ }
@@ -95,12 +178,12 @@ pub(crate) fn count_in(line: &[u8], from: usize) -> usize
     let mut count: usize = 0;
     let mut at = from;
     while at <= n {
-        let end = field_end(line, at);
-        if NUMBER_END <= number_in(&line[at..end]) {
+        let number = number_from(line, at);
+        if !number.good {
             return 0;
         }
         count += 1;
-        at = end + 1;
+        at = number.end + 1;
     }
     count
 }

@@ -1,10 +1,7 @@
 // The parts of a line that was read: its texts and its powers.
 ghost use mathlib.Core.Path.{_≡_};
-ghost use Prim.Native.Nat.{_≤_};
-ghost use lib.ListN.{length, take};
-ghost use Rattle.script.specs.Spans.{cut, firstText, secondText, powersOf};
-use crate::fields::field_end;
-use crate::fields::number_in;
+ghost use Rattle.script.specs.Spans.{cut, firstText, secondText, powersRead};
+use crate::fields::number_from;
 use crate::reading::Line;
 use lists::numbers::least_length;
 
@@ -30,25 +27,24 @@ pub fn second_text(line: &[u8], read: Line) -> &[u8]
     part(line, first + 1, read.second as usize)
 }
 
-// The powers of a line, and how many they are.
+// The powers of a line, zeros after them, and how many they are.
 pub struct Powers {
     pub count: usize,
     pub numbers: [u32; 256],
 }
 
 pub fn powers_of(line: &[u8], read: Line) -> Powers
-    ensures { λ r. ⌜
-        (take (r .count) (r .numbers) ≡ powersOf (now (line .entry)) read) × (r .count ≤ length (r .numbers)) ⌝ }
+    ensures { λ r. ⌜ r ≡ powersRead (now (line .entry)) read ⌝ }
 {
     let most = least_length(read.count as usize, 256);
     let mut numbers = [0u32; 256];
     let mut count: usize = 0;
     let mut at = read.from as usize;
     while (count < most) & (at <= line.len()) {
-        let end = field_end(line, at);
-        numbers[count] = number_in(&line[at..end]);
+        let number = number_from(line, at);
+        numbers[count] = number.value;
         count += 1;
-        at = end + 1;
+        at = number.end + 1;
     }
     Powers { count, numbers }
 }

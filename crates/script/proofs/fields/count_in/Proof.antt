@@ -1,5 +1,6 @@
 -- The fields so far are numbers, and those that are left decide.
 use borrow.Author.Needs.{needs}
+use borrow.Author.Tests.{not-true, not-false}
 use Prim.Native.Nat.{_+_, _-_}
 use native.Mathlib.Omega.{arith}
 use lib.ListN.{length}
@@ -16,43 +17,34 @@ abbrev μ-loop : tie.MeasureT-loop
 loop-holds : tie.Need-loop-holds Inv-loop μ-loop
 loop-holds c = counted-none _ _ (c .before .pre)
 
-field-end-requires : tie.Need-field-end-requires Inv-loop μ-loop
-field-end-requires c κs = search needs
-
-sub-number-in : tie.Need-sub-number-in Inv-loop μ-loop
-sub-number-in c = omega (arith, c .field-end .ensures .after)
-
-part-number-in-start : tie.Need-part-number-in-start Inv-loop μ-loop
-part-number-in-start c = omega (arith, c .field-end .ensures .after)
-
-part-number-in-end : tie.Need-part-number-in-end Inv-loop μ-loop
-part-number-in-end c = omega (arith, c .field-end .ensures .inside)
-
-number-in-requires : tie.Need-number-in-requires Inv-loop μ-loop
-number-in-requires c κs = search needs
+number-from-requires : tie.Need-number-from-requires Inv-loop μ-loop
+number-from-requires c κs = search needs
 
 returns : tie.Need-returns Inv-loop μ-loop
 returns c =
-    let f = c .before .before .before in
-    (counted-bad _ _ _ _ _ (f .before .before .loop .inv) (f .field-end .ensures) _ (c .before .number-in .ensures) (c .if1 .taken), omega (arith, f .before .before .before .before .pre))
+    let f = c .before .before in
+    (counted-bad (f .before .before .loop .inv) (f .number-from .ensures) (not-true _ (c .if1 .taken)), omega (arith, f .before .before .before .before .pre))
 
 add-count : tie.Need-add-count Inv-loop μ-loop
 add-count c =
-    let f = c .before .before .before in
-    omega (arith, f .before .before .loop .inv .room, f .field-end .ensures .inside, f .field-end .ensures .after, f .before .before .before .before .good)
+    let f = c .before .before in
+    let e = f .number-from .ensures .ends in
+    omega (arith, f .before .before .loop .inv .room, e .inside, e .after, f .before .before .before .before .good)
 
 add-at : tie.Need-add-at Inv-loop μ-loop
 add-at c =
     let f = c .before .before .before in
-    omega (arith, f .field-end .ensures .inside, f .before .before .before .before .good)
+    omega (arith, f .number-from .ensures .ends .inside, f .before .before .before .before .good)
 
 loop-less : tie.Need-loop-less Inv-loop μ-loop
-loop-less c = omega (arith, c .before .before .before .field-end .ensures .inside, c .before .before .before .field-end .ensures .after)
+loop-less c =
+    let e = c .before .before .before .number-from .ensures .ends in
+    omega (arith, e .inside, e .after)
 
 loop-again : tie.Need-loop-again Inv-loop μ-loop
 loop-again c =
     let f = c .before .before .before in
-    counted-more _ _ _ _ _ (f .before .before .loop .inv) (f .field-end .ensures) _ (c .before .number-in .ensures) (c .if1 .left)
+    counted-more (f .before .before .loop .inv) (f .number-from .ensures) (not-false _ (c .before .if1 .left))
 
 returns-2 : tie.Need-returns-2 Inv-loop μ-loop
 returns-2 c =
@@ -66,11 +58,7 @@ count-in-spec =
     Inv-loop
     μ-loop
     loop-holds
-    field-end-requires
-    sub-number-in
-    part-number-in-start
-    part-number-in-end
-    number-in-requires
+    number-from-requires
     returns
     add-count
     add-at

@@ -1,6 +1,7 @@
 -- Each call, by the texts and the powers of its line.
 use mathlib.Core.Path.{refl, _∙_}
 use Rattle.register.proofs.Telling.{tells-done}
+use Rattle.script.proofs.Powers.{powers-first}
 use Rattle.session.proofs.Spans.{called-by, counted}
 use borrow.Author.Needs.{needs}
 use Rattle.session.proofs.calling.called.Statement.{statement}
@@ -52,10 +53,10 @@ powers-of-requires : tie.Need-powers-of-requires
 powers-of-requires c κs = search needs
 
 array-share-prefix-given : tie.Need-array-share-prefix-given
-array-share-prefix-given c = c .before .before .before .before .powers-of .ensures .1
+array-share-prefix-given c = powers-first _ _ (c .before .before .before .before .powers-of .ensures) .1
 
 slice-aggregate-load : tie.Need-slice-aggregate-load
-slice-aggregate-load c = counted _ _ (c .before .before .before .before .before .powers-of .ensures .1)
+slice-aggregate-load c = counted _ _ (powers-first _ _ (c .before .before .before .before .before .powers-of .ensures) .1)
 
 load-requires : tie.Need-load-requires
 load-requires c κs = search needs
@@ -75,7 +76,7 @@ returns-3 c = λ cols. tells-done (c .turned3 .ensures) (c .before .enrol-catego
 returns-4 : tie.Need-returns-4
 returns-4 c = λ cols.
     let p = c .before .before .before .before .before .before .before in
-    tells-done (c .turned4 .ensures) (c .before .load .ensures cols) ∙ called-by _ _ _ (p .before .before .before .enum-told4 .given .1) (p .before .before .first-text3 .ensures) (p .before .second-text .ensures) (p .powers-of .ensures .0)
+    tells-done (c .turned4 .ensures) (c .before .load .ensures cols) ∙ called-by _ _ _ (p .before .before .before .enum-told4 .given .1) (p .before .before .first-text3 .ensures) (p .before .second-text .ensures) (powers-first _ _ (p .powers-of .ensures) .0)
 
 pub called-spec : {M : Type 1} → statement M
 called-spec =
