@@ -10,7 +10,6 @@ pub mod Whole
 pub mod Examples
 pub mod AnswersFit
 pub mod LinesFit
-pub mod NamedLines
 pub mod WalksExist
 pub mod RunsExist
 pub mod Witness

@@ -18,14 +18,14 @@ use Rattle.answers.specs.declared.Said.{Said}
 use Rattle.register.specs.View.{Register, held}
 use Rattle.register.specs.Told.{Told, tells}
 use Rattle.script.specs.Lines.{Asked, calls, fileOf, engagement, recordOf, unknown, lineOf}
-use Rattle.script.specs.Spans.{cut, firstText, secondText, asked, Read}
+use Rattle.script.specs.Spans.{cut, firstText, secondText, asked, lineRead}
 use Rattle.script.specs.Answers.{answerPut, answerEnd}
 use Rattle.script.specs.declared.reading.Kind.the-variants.{Engagement}
 use Rattle.script.specs.declared.reading.Line.{Line}
 use Rattle.session.specs.Lines.{onlyAsks, askStep, lineStep}
 use Rattle.session.proofs.Spans.{asks-only, asks-engagement, engagement-said}
 use Rattle.lines.proofs.Fronts.{drop-take}
-use Rattle.lines.proofs.Names.{none-wanted}
+use Rattle.lines.proofs.Names.{says, none-wanted}
 use Rattle.lines.specs.Scripts.{Line as Done, lineSays}
 use Rattle.lines.specs.Walking.{Walked, stands, hasRoom, next, nameFrom, nameAt, wanted, stops, tellsOn, answered, walk, NamedIn, NamedIf, Progressed}
 use Rattle.lines.specs.declared.answering.Wants.{Wants}
@@ -48,18 +48,18 @@ pub record Answers (r : Register) (readable : Bool) (body line : List ℕ) (give
   pub unnamed : wanted given line ≡ 0
 
 pub ask-answers : (r : Register) (readable : Bool) (body : List ℕ) (given : Bool) {line : List ℕ} {form : Line} {t : Bool} {said : Said} →
-    Read line form (lineOf line) → ((line : List ℕ) → t ≡ onlyAsks (asked line form)) → t ≡ true → said ≡ askStep (held r) (asked line form) →
+    form ≡ lineRead line → ((line : List ℕ) → t ≡ onlyAsks (asked line form)) → t ≡ true → said ≡ askStep (held r) (asked line form) →
     Answers r readable body line given said
 unfolding nameAt
 ask-answers r readable body given {line} w e k f =
-    let asks : onlyAsks (lineOf line) ≡ true = ap onlyAsks (sym (w .says)) ∙ sym (e line) ∙ k in
+    let asks : onlyAsks (lineOf line) ≡ true = ap onlyAsks (sym (says line w)) ∙ sym (e line) ∙ k in
     record {
-      told = ap (tells r) (f ∙ ap (askStep (held r)) (w .says)) ∙ sym (asks-only r readable body (lineOf line) asks);
+      told = ap (tells r) (f ∙ ap (askStep (held r)) (says line w)) ∙ sym (asks-only r readable body (lineOf line) asks);
       unnamed = none-wanted given line (asks-none (length line) (lineOf line) asks);
     }
 
 pub engagement-answers : (r : Register) (readable : Bool) (body : List ℕ) (given : Bool) {line : List ℕ} {form : Line} {said : Said} →
-    Read line form (lineOf line) → form .kind ≡ Engagement →
+    form ≡ lineRead line → form .kind ≡ Engagement →
     said ≡ saidEngaged (askEngagement (held r) (firstText line form) (secondText line form) (form .day) (form .number)) →
     Answers r readable body line given said
 engagement-answers r readable body given {line} {form} w e f =
@@ -68,9 +68,9 @@ engagement-answers r readable body given {line} {form} w e f =
 -- ---- lines that do something
 
 -- what is told of a line by what was read of it is what is told of the line
-pub told-by : (r : Register) (readable : Bool) (body : List ℕ) {line : List ℕ} {form : Line} {x : Told} → Read line form (lineOf line) →
+pub told-by : (r : Register) (readable : Bool) (body line : List ℕ) {form : Line} {x : Told} → form ≡ lineRead line →
     x ≡ lineStep r readable body (asked line form) → x ≡ lineStep r readable body (lineOf line)
-told-by r readable body w e = e ∙ ap (lineStep r readable body) (w .says)
+told-by r readable body line w e = e ∙ ap (lineStep r readable body) (says line w)
 
 -- ---- a step of the walk
 

@@ -34,7 +34,7 @@ use Rattle.lines.proofs.Printing.{put-long}
 use Rattle.lines.proofs.Whole.{line-here}
 use Rattle.lines.proofs.AnswersFit.{answer-short}
 use Rattle.lines.proofs.LinesFit.{Early, early-line}
-use Rattle.lines.proofs.NamedLines.{wanted-named}
+use Rattle.lines.proofs.Names.{wanted-named}
 use Rattle.lines.proofs.Blocks.{Went, goes}
 
 -- ---- a line on a register whose arrays have their places

@@ -1,5 +1,5 @@
 -- The letter at the beginning of a line says of which kind it is.
-use mathlib.Core.Path.{_≡_, refl, sym, ap, _∙_, subst}
+use mathlib.Core.Path.{_≡_, refl, sym, ap, ap₂, _∙_}
 use mathlib.Core.Bool.{Bool, true, false, cond}
 use mathlib.Core.List.{List, [], _∷_}
 use Prim.Native.Nat.{ℕ, zero, suc, _+_, _<_, _≤_}
@@ -10,9 +10,11 @@ use borrow.Author.Tests.{eqb-true, eqb-false, eq-eqb, ne-eqb, le-leb, lt-leb}
 use Rattle.notification.specs.Reading.{onto}
 use Rattle.script.specs.Lines.{Asked, unknown, known, field, lineMost, comma, fields, letterOf, byLetter, lineOf, advanceLine, enrolLine, categoryLine, loadLine, fileLine, engagementLine, recordLine}
 use Rattle.script.specs.Fields.{fieldsFrom}
-use Rattle.script.specs.Spans.{start, Read}
+use Rattle.script.specs.Spans.{start, endOf, readAs, lineRead}
+use Rattle.script.specs.Walking.{lettered}
 use Rattle.script.specs.declared.reading.Line.{Line}
 use Rattle.script.proofs.Parting.{from-inside, fields-parted}
+use Rattle.script.proofs.LineKinds.{noLine, Reads}
 
 -- ---- no letter
 
@@ -77,10 +79,23 @@ pub line-with : (line : List ℕ) (b : ℕ) → 2 ≤ length line → length lin
     → lineOf line ≡ byLetter b (fieldsFrom line start)
 line-with line b h l e k = rw (← k) (line-letter line h l e)
 
--- a line is read by what its letter says that its fields are
-pub read-letter : {line : List ℕ} {r : Line} {a : Asked} (b : ℕ) → 2 ≤ length line → length line ≤ lineMost → getD line 1 0 ≡ comma → getD line 0 0 ≡ b
-    → byLetter b (fieldsFrom line start) ≡ a → Read line r a → Read line r (lineOf line)
-read-letter {line} {r} b h l e k f w = subst (Read line r) (sym (line-with line b h l e k ∙ f)) w
+-- such a line's fields, where its letter is no comma itself
+fields-lettered : (line : List ℕ) → 2 ≤ length line → getD line 1 0 ≡ comma → eqb (getD line 0 0) comma ≡ false → fields line ≡ lettered line
+unfolding fields
+fields-lettered [] h e f = absurd (omega arith)
+fields-lettered (x ∷ []) h e f = absurd (omega arith)
+fields-lettered (x ∷ y ∷ s) h e f = rw (eq-eqb y comma e, f, from-inside (x ∷ y ∷ s) start h) refl
+
+-- a line is read as what its letter says that its fields are
+pub read-letter : (line : List ℕ) {r : Line} {a : Asked} (b : ℕ) → eqb b comma ≡ false → 2 ≤ length line → length line ≤ lineMost → getD line 1 0 ≡ comma
+    → getD line 0 0 ≡ b → byLetter b (fieldsFrom line start) ≡ a → Reads line r a → r ≡ lineRead line
+unfolding lineRead
+read-letter line b n h l e k f w =
+    w ∙ sym (ap₂ (λ (fs : List (List ℕ)) (x : Asked). readAs (endOf fs) x) (fields-lettered line h e (rw k n)) (line-with line b h l e k ∙ f))
+
+pub unknown-read : (line : List ℕ) → unknown ≡ lineOf line → noLine ≡ lineRead line
+unfolding lineRead
+unknown-read line e = ap (readAs (endOf (fields line))) e
 
 pub no-letter : (b : ℕ) (fs : List (List ℕ)) → (b ≡ 84 → ⊥) → (b ≡ 65 → ⊥) → (b ≡ 67 → ⊥) → (b ≡ 76 → ⊥) → (b ≡ 70 → ⊥) → (b ≡ 69 → ⊥) → (b ≡ 82 → ⊥)
     → unknown ≡ byLetter b fs

@@ -9,35 +9,34 @@ use lib.Dec.{ltb}
 use lib.ListN.{length, take, drop}
 use borrow.Author.Tests.{lt-ltb, le-ltb}
 use Rattle.lists.specs.Searches.{placeOf, isByte}
-use Rattle.lists.proofs.Tests.{true-false, and-right}
+use Rattle.lists.proofs.Tests.{and-right}
 use Rattle.calendar.specs.Dates.{dayCount}
+use Rattle.ledger.specs.Call as Call
 use Rattle.script.specs.Numbers.{numberEnd, isNumber, valueOf, dayIn, isDay}
-use Rattle.script.specs.Lines.{Asked, unknown, comma, fields, advanceLine, enrolLine, categoryLine, fileLine, engagementLine, recordLine}
+use Rattle.script.specs.Lines.{Asked, calls, fileOf, engagement, recordOf, unknown, comma, fields, advanceLine, enrolLine, categoryLine, fileLine, engagementLine, recordLine}
 use Rattle.script.specs.Fields.{fieldsFrom, numberIn}
-use Rattle.script.specs.Spans.{cut, start, namesFile, asked, Read}
-use Rattle.script.specs.Walking.{FieldEnd}
+use Rattle.script.specs.Spans.{cut, start, endOf, plain, readAs}
+use Rattle.script.specs.Walking.{FieldEnd, lettered}
 use Rattle.script.specs.declared.reading.CallKind.the-variants.{Advance, EnrolActor, EnrolCategory}
 use Rattle.script.specs.declared.reading.Kind.{Kind}
 use Rattle.script.specs.declared.reading.Kind.the-variants.{Calls, Files, Engagement, RecordOf, Unknown}
 use Rattle.script.specs.declared.reading.Line.{Line}
 use Rattle.script.proofs.Parting.{restAt, from-inside, from-past, fields-parted}
 use Rattle.script.proofs.Numerals.{number-test, number-value}
-
--- a line without powers
-abbrev pub plain : Kind → ℕ → ℕ → ℕ → ℕ → Line
-plain kind first second day n =
-    record { kind = kind; first = first; second = second; day = day; number = n; from = 0; count = 0 }
+use Rattle.script.proofs.FieldEnds.{end-one, end-two}
 
 abbrev pub noLine : Line
 noLine = plain Unknown 0 0 0 0
 
--- a line that names no file
-pub read-as : (line : List ℕ) (r : Line) (a : Asked) → namesFile (r .kind) ≡ false → asked line r ≡ a → Read line r a
-read-as line r a e f = record { says = f; named = λ t. true-false (namesFile (r .kind)) t e }
+-- a line that begins with a letter and a comma is read as its other fields say
+abbrev pub Reads : List ℕ → Line → Asked → Type 0
+Reads line r a = r ≡ readAs (endOf (lettered line)) a
 
-pub unknown-as : (line : List ℕ) (a : Asked) → unknown ≡ a → Read line noLine a
-unfolding asked
-unknown-as line a e = read-as line noLine a refl e
+pub read-as : (line : List ℕ) {r : Line} {a b : Asked} → Reads line r a → a ≡ b → Reads line r b
+read-as line p q = p ∙ ap (readAs (endOf (lettered line))) q
+
+pub unknown-as : (line : List ℕ) {a : Asked} → unknown ≡ a → Reads line noLine a
+unknown-as line e = ap (readAs (endOf (lettered line))) e
 
 -- the fields after one that ends before the end of the line, and after one that ends there
 pub some-after : (line : List ℕ) (end : ℕ) → end < length line
@@ -58,145 +57,148 @@ number-passed s v q t = sym (number-value s (sym (number-test s) ∙ rw (← q) 
 -- ---- T
 
 module _ (line : List ℕ) (a : ℕ) (pa : FieldEnd line start a) where
-  pub advance-short : length line ≤ a → Read line noLine (advanceLine (fieldsFrom line start))
+  pub advance-short : length line ≤ a → Reads line noLine (advanceLine (fieldsFrom line start))
   unfolding advanceLine
-  advance-short h = unknown-as line _ (rw (pa .parts, none-after line a h))
+  advance-short h = unknown-as line {a = advanceLine (fieldsFrom line start)} (rw (pa .parts, none-after line a h))
 
   module _ (b : ℕ) (pb : FieldEnd line (a + 1) b) where
-    pub advance-long : b < length line → Read line noLine (advanceLine (fieldsFrom line start))
+    pub advance-long : b < length line → Reads line noLine (advanceLine (fieldsFrom line start))
     unfolding advanceLine
-    advance-long h = unknown-as line _ (rw (pa .parts, pb .parts, some-after line b h))
+    advance-long h = unknown-as line {a = advanceLine (fieldsFrom line start)} (rw (pa .parts, pb .parts, some-after line b h))
 
     module _ (h : length line ≤ b) (day v : ℕ) (p : day ≡ dayIn (cut line start a)) (q : v ≡ numberIn (cut line (a + 1) b)) where
-      pub advance-good : (ltb day dayCount && ltb v numberEnd) ≡ true → Read line (plain (Calls Advance) 0 0 day v) (advanceLine (fieldsFrom line start))
-      unfolding advanceLine asked
+      pub advance-good : (ltb day dayCount && ltb v numberEnd) ≡ true → Reads line (plain (Calls Advance) 0 0 day v) (advanceLine (fieldsFrom line start))
+      unfolding advanceLine
       advance-good t =
           let e = number-passed (cut line (a + 1) b) v q (and-right (ltb day dayCount) (ltb v numberEnd) t) in
           let k = date-and-number (cut line start a) (cut line (a + 1) b) day v p q ∙ t in
-          read-as line _ _ refl (rw (pa .parts, pb .parts, none-after line b h, k, e, p))
+          read-as line {a = calls (Call.advance day v)} {b = advanceLine (fieldsFrom line start)} refl (rw (pa .parts, pb .parts, none-after line b h, k, e, p))
 
-      pub advance-bad : (ltb day dayCount && ltb v numberEnd) ≡ false → Read line noLine (advanceLine (fieldsFrom line start))
+      pub advance-bad : (ltb day dayCount && ltb v numberEnd) ≡ false → Reads line noLine (advanceLine (fieldsFrom line start))
       unfolding advanceLine
       advance-bad t =
           let k = date-and-number (cut line start a) (cut line (a + 1) b) day v p q ∙ t in
-          unknown-as line _ (rw (pa .parts, pb .parts, none-after line b h, k))
+          unknown-as line {a = advanceLine (fieldsFrom line start)} (rw (pa .parts, pb .parts, none-after line b h, k))
 
 -- ---- A
 
 module _ (line : List ℕ) (a : ℕ) (pa : FieldEnd line start a) where
-  pub enrol-short : length line ≤ a → Read line noLine (enrolLine (fieldsFrom line start))
+  pub enrol-short : length line ≤ a → Reads line noLine (enrolLine (fieldsFrom line start))
   unfolding enrolLine
-  enrol-short h = unknown-as line _ (rw (pa .parts, none-after line a h))
+  enrol-short h = unknown-as line {a = enrolLine (fieldsFrom line start)} (rw (pa .parts, none-after line a h))
 
   module _ (b : ℕ) (pb : FieldEnd line (a + 1) b) where
-    pub enrol-shorter : length line ≤ b → Read line noLine (enrolLine (fieldsFrom line start))
+    pub enrol-shorter : length line ≤ b → Reads line noLine (enrolLine (fieldsFrom line start))
     unfolding enrolLine
-    enrol-shorter h = unknown-as line _ (rw (pa .parts, pb .parts, none-after line b h))
+    enrol-shorter h = unknown-as line {a = enrolLine (fieldsFrom line start)} (rw (pa .parts, pb .parts, none-after line b h))
 
     module _ (c : ℕ) (pc : FieldEnd line (b + 1) c) where
-      pub enrol-long : c < length line → Read line noLine (enrolLine (fieldsFrom line start))
+      pub enrol-long : c < length line → Reads line noLine (enrolLine (fieldsFrom line start))
       unfolding enrolLine
-      enrol-long h = unknown-as line _ (rw (pa .parts, pb .parts, pc .parts, some-after line c h))
+      enrol-long h = unknown-as line {a = enrolLine (fieldsFrom line start)} (rw (pa .parts, pb .parts, pc .parts, some-after line c h))
 
       module _ (h : length line ≤ c) (first last : ℕ) (p : first ≡ dayIn (cut line (a + 1) b)) (q : last ≡ dayIn (cut line (b + 1) c)) where
-        pub enrol-good : (ltb first dayCount && ltb last dayCount) ≡ true → Read line (plain (Calls EnrolActor) a 0 first last) (enrolLine (fieldsFrom line start))
-        unfolding enrolLine asked
+        pub enrol-good : (ltb first dayCount && ltb last dayCount) ≡ true → Reads line (plain (Calls EnrolActor) a 0 first last) (enrolLine (fieldsFrom line start))
+        unfolding enrolLine
         enrol-good t =
             let k : (isDay (cut line (a + 1) b) && isDay (cut line (b + 1) c)) ≡ true = rw (← p, ← q) t in
-            read-as line _ _ refl (rw (pa .parts, pb .parts, pc .parts, none-after line c h, k, p, q))
+            read-as line {a = calls (Call.enrolActor (cut line start a) first last)} {b = enrolLine (fieldsFrom line start)} (rw (end-one pa) refl)
+            (rw (pa .parts, pb .parts, pc .parts, none-after line c h, k, p, q))
 
-        pub enrol-bad : (ltb first dayCount && ltb last dayCount) ≡ false → Read line noLine (enrolLine (fieldsFrom line start))
+        pub enrol-bad : (ltb first dayCount && ltb last dayCount) ≡ false → Reads line noLine (enrolLine (fieldsFrom line start))
         unfolding enrolLine
         enrol-bad t =
             let k : (isDay (cut line (a + 1) b) && isDay (cut line (b + 1) c)) ≡ false = rw (← p, ← q) t in
-            unknown-as line _ (rw (pa .parts, pb .parts, pc .parts, none-after line c h, k))
+            unknown-as line {a = enrolLine (fieldsFrom line start)} (rw (pa .parts, pb .parts, pc .parts, none-after line c h, k))
 
 -- ---- C
 
 module _ (line : List ℕ) (a : ℕ) (pa : FieldEnd line start a) where
-  pub category-long : a < length line → Read line noLine (categoryLine (fieldsFrom line start))
+  pub category-long : a < length line → Reads line noLine (categoryLine (fieldsFrom line start))
   unfolding categoryLine
-  category-long h = unknown-as line _ (rw (pa .parts, some-after line a h))
+  category-long h = unknown-as line {a = categoryLine (fieldsFrom line start)} (rw (pa .parts, some-after line a h))
 
-  pub category-good : length line ≤ a → Read line (plain (Calls EnrolCategory) a 0 0 0) (categoryLine (fieldsFrom line start))
-  unfolding categoryLine asked
-  category-good h = read-as line _ _ refl (rw (pa .parts, none-after line a h))
+  pub category-good : length line ≤ a → Reads line (plain (Calls EnrolCategory) a 0 0 0) (categoryLine (fieldsFrom line start))
+  unfolding categoryLine
+  category-good h = read-as line {a = calls (Call.enrolCategory (cut line start a))} {b = categoryLine (fieldsFrom line start)} (rw (end-one pa) refl) (rw (pa .parts, none-after line a h))
 
 -- ---- F
 
 module _ (line : List ℕ) (a : ℕ) (pa : FieldEnd line start a) where
-  pub file-short : length line ≤ a → Read line noLine (fileLine (fieldsFrom line start))
+  pub file-short : length line ≤ a → Reads line noLine (fileLine (fieldsFrom line start))
   unfolding fileLine
-  file-short h = unknown-as line _ (rw (pa .parts, none-after line a h))
+  file-short h = unknown-as line {a = fileLine (fieldsFrom line start)} (rw (pa .parts, none-after line a h))
 
   module _ (b : ℕ) (pb : FieldEnd line (a + 1) b) where
-    pub file-long : b < length line → Read line noLine (fileLine (fieldsFrom line start))
+    pub file-long : b < length line → Reads line noLine (fileLine (fieldsFrom line start))
     unfolding fileLine
-    file-long h = unknown-as line _ (rw (pa .parts, pb .parts, some-after line b h))
+    file-long h = unknown-as line {a = fileLine (fieldsFrom line start)} (rw (pa .parts, pb .parts, some-after line b h))
 
-    pub file-good : a < length line → length line ≤ b → Read line (plain Files a b 0 0) (fileLine (fieldsFrom line start))
-    unfolding fileLine asked
-    file-good i h =
-        record { says = rw (pa .parts, pb .parts, none-after line b h); named = λ t. (i, omega (arith, h, pb .inside)) }
+    pub file-good : length line ≤ b → Reads line (plain Files a b 0 0) (fileLine (fieldsFrom line start))
+    unfolding fileLine
+    file-good h =
+        read-as line {a = fileOf (cut line start a) (cut line (a + 1) b)} {b = fileLine (fieldsFrom line start)} (rw (end-one pa, end-two pa pb) refl)
+        (rw (pa .parts, pb .parts, none-after line b h))
 
 -- ---- R
 
 module _ (line : List ℕ) (a : ℕ) (pa : FieldEnd line start a) where
-  pub record-short : length line ≤ a → Read line noLine (recordLine (fieldsFrom line start))
+  pub record-short : length line ≤ a → Reads line noLine (recordLine (fieldsFrom line start))
   unfolding recordLine
-  record-short h = unknown-as line _ (rw (pa .parts, none-after line a h))
+  record-short h = unknown-as line {a = recordLine (fieldsFrom line start)} (rw (pa .parts, none-after line a h))
 
   module _ (b : ℕ) (pb : FieldEnd line (a + 1) b) where
-    pub record-long : b < length line → Read line noLine (recordLine (fieldsFrom line start))
+    pub record-long : b < length line → Reads line noLine (recordLine (fieldsFrom line start))
     unfolding recordLine
-    record-long h = unknown-as line _ (rw (pa .parts, pb .parts, some-after line b h))
+    record-long h = unknown-as line {a = recordLine (fieldsFrom line start)} (rw (pa .parts, pb .parts, some-after line b h))
 
     module _ (h : length line ≤ b) (v : ℕ) (q : v ≡ numberIn (cut line (a + 1) b)) where
-      pub record-good : v < numberEnd → Read line (plain RecordOf a 0 0 v) (recordLine (fieldsFrom line start))
-      unfolding recordLine asked
+      pub record-good : v < numberEnd → Reads line (plain RecordOf a 0 0 v) (recordLine (fieldsFrom line start))
+      unfolding recordLine
       record-good t =
           let e = number-passed (cut line (a + 1) b) v q (lt-ltb v numberEnd t) in
           let k : isNumber (cut line (a + 1) b) ≡ true = sym (number-test (cut line (a + 1) b)) ∙ rw (← q) (lt-ltb v numberEnd t) in
-          read-as line _ _ refl (rw (pa .parts, pb .parts, none-after line b h, k, e))
+          read-as line {a = recordOf (cut line start a) v} {b = recordLine (fieldsFrom line start)} (rw (end-one pa) refl) (rw (pa .parts, pb .parts, none-after line b h, k, e))
 
-      pub record-bad : numberEnd ≤ v → Read line noLine (recordLine (fieldsFrom line start))
+      pub record-bad : numberEnd ≤ v → Reads line noLine (recordLine (fieldsFrom line start))
       unfolding recordLine
       record-bad t =
           let k : isNumber (cut line (a + 1) b) ≡ false = sym (number-test (cut line (a + 1) b)) ∙ rw (← q) (le-ltb v numberEnd t) in
-          unknown-as line _ (rw (pa .parts, pb .parts, none-after line b h, k))
+          unknown-as line {a = recordLine (fieldsFrom line start)} (rw (pa .parts, pb .parts, none-after line b h, k))
 
 -- ---- E
 
 module _ (line : List ℕ) (a : ℕ) (pa : FieldEnd line start a) where
-  pub engagement-one : length line ≤ a → Read line noLine (engagementLine (fieldsFrom line start))
+  pub engagement-one : length line ≤ a → Reads line noLine (engagementLine (fieldsFrom line start))
   unfolding engagementLine
-  engagement-one h = unknown-as line _ (rw (pa .parts, none-after line a h))
+  engagement-one h = unknown-as line {a = engagementLine (fieldsFrom line start)} (rw (pa .parts, none-after line a h))
 
   module _ (b : ℕ) (pb : FieldEnd line (a + 1) b) where
-    pub engagement-two : length line ≤ b → Read line noLine (engagementLine (fieldsFrom line start))
+    pub engagement-two : length line ≤ b → Reads line noLine (engagementLine (fieldsFrom line start))
     unfolding engagementLine
-    engagement-two h = unknown-as line _ (rw (pa .parts, pb .parts, none-after line b h))
+    engagement-two h = unknown-as line {a = engagementLine (fieldsFrom line start)} (rw (pa .parts, pb .parts, none-after line b h))
 
     module _ (c : ℕ) (pc : FieldEnd line (b + 1) c) where
-      pub engagement-three : length line ≤ c → Read line noLine (engagementLine (fieldsFrom line start))
+      pub engagement-three : length line ≤ c → Reads line noLine (engagementLine (fieldsFrom line start))
       unfolding engagementLine
-      engagement-three h = unknown-as line _ (rw (pa .parts, pb .parts, pc .parts, none-after line c h))
+      engagement-three h = unknown-as line {a = engagementLine (fieldsFrom line start)} (rw (pa .parts, pb .parts, pc .parts, none-after line c h))
 
       module _ (d : ℕ) (pd : FieldEnd line (c + 1) d) where
-        pub engagement-long : d < length line → Read line noLine (engagementLine (fieldsFrom line start))
+        pub engagement-long : d < length line → Reads line noLine (engagementLine (fieldsFrom line start))
         unfolding engagementLine
-        engagement-long h = unknown-as line _ (rw (pa .parts, pb .parts, pc .parts, pd .parts, some-after line d h))
+        engagement-long h = unknown-as line {a = engagementLine (fieldsFrom line start)} (rw (pa .parts, pb .parts, pc .parts, pd .parts, some-after line d h))
 
         module _ (h : length line ≤ d) (day v : ℕ) (p : day ≡ dayIn (cut line (b + 1) c)) (q : v ≡ numberIn (cut line (c + 1) d)) where
-          pub engagement-good : (ltb day dayCount && ltb v numberEnd) ≡ true → Read line (plain Engagement a b day v) (engagementLine (fieldsFrom line start))
-          unfolding engagementLine asked
+          pub engagement-good : (ltb day dayCount && ltb v numberEnd) ≡ true → Reads line (plain Engagement a b day v) (engagementLine (fieldsFrom line start))
+          unfolding engagementLine
           engagement-good t =
               let e = number-passed (cut line (c + 1) d) v q (and-right (ltb day dayCount) (ltb v numberEnd) t) in
               let k = date-and-number (cut line (b + 1) c) (cut line (c + 1) d) day v p q ∙ t in
-              read-as line _ _ refl (rw (pa .parts, pb .parts, pc .parts, pd .parts, none-after line d h, k, e, p))
+              read-as line {a = engagement (cut line start a) (cut line (a + 1) b) day v} {b = engagementLine (fieldsFrom line start)} (rw (end-one pa, end-two pa pb) refl)
+              (rw (pa .parts, pb .parts, pc .parts, pd .parts, none-after line d h, k, e, p))
 
-          pub engagement-bad : (ltb day dayCount && ltb v numberEnd) ≡ false → Read line noLine (engagementLine (fieldsFrom line start))
+          pub engagement-bad : (ltb day dayCount && ltb v numberEnd) ≡ false → Reads line noLine (engagementLine (fieldsFrom line start))
           unfolding engagementLine
           engagement-bad t =
               let k = date-and-number (cut line (b + 1) c) (cut line (c + 1) d) day v p q ∙ t in
-              unknown-as line _ (rw (pa .parts, pb .parts, pc .parts, pd .parts, none-after line d h, k))
+              unknown-as line {a = engagementLine (fieldsFrom line start)} (rw (pa .parts, pb .parts, pc .parts, pd .parts, none-after line d h, k))

@@ -16,7 +16,7 @@ use Rattle.script.specs.Fields.{fieldsFrom, numberIn}
 use Rattle.script.specs.Spans.{cut, powerPlaces, powersOf, powersRead}
 use Rattle.script.specs.Walking.{NumberRead, countIn}
 use Rattle.script.specs.declared.reading.Line.{Line}
-use Rattle.script.specs.declared.fields.Numeral.{Numeral}
+use Rattle.script.specs.declared.numbers.Numeral.{Numeral}
 use Rattle.script.specs.declared.parts.Powers.{Powers}
 use Rattle.script.proofs.Parting.{from-past}
 use Rattle.script.proofs.Numerals.{number-parts, number-value}

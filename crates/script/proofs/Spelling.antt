@@ -68,13 +68,13 @@ module _ {line : List ℕ} {from : ℕ} where
       }
 
   -- a comma ends it
-  pub spelt-ended : {v end : ℕ} → Spelt line from v end → getD line end 0 ≡ comma → NumberRead line from (record { good = true; value = v; end = end })
-  spelt-ended {v} {end} p e =
+  pub spelt-ended : {v end : ℕ} {t : Bool} → Spelt line from v end → t ≡ true → getD line end 0 ≡ comma → NumberRead line from (record { good = t; value = v; end = end })
+  spelt-ended {v} {end} p k e =
       let s = cut line from end in
       let i = p .inside in
       record {
         ends = field-past line (p .after) (omega arith) (no-comma s (number-parts s (p .good) .2)) (byte-here comma line end i e);
-        good = sym (p .good);
+        good = k ∙ sym (p .good);
         value = sym (number-value s (p .good) ∙ p .value);
       }
 

@@ -1,13 +1,13 @@
 -- A line of the script as it is read (document 01, "The script program"): its texts are spans of the line, and its powers are the fields
 -- from a place on.
-use mathlib.Core.Path.{_≡_}
 use mathlib.Core.Bool.{Bool, true, false}
 use mathlib.Core.List.{List, _++_, map}
-use Prim.Native.Nat.{ℕ, _+_, _-_, _<_, min}
+use Prim.Native.Nat.{ℕ, suc, _+_, _-_, min}
 use lib.ListN.{length, take, drop, replicate}
+use Rattle.lists.specs.Sums.{sumOver}
 use Rattle.ledger.specs.Call as Call
 use Rattle.script.specs.Fields.{fieldsFrom, numberIn}
-use Rattle.script.specs.Lines.{Asked, calls, fileOf, engagement, recordOf, unknown}
+use Rattle.script.specs.Lines.{Asked, calls, fileOf, engagement, recordOf, unknown, fields, lineOf}
 use Rattle.script.specs.declared.reading.CallKind.{CallKind}
 use Rattle.script.specs.declared.reading.CallKind.the-variants.{Advance, EnrolActor, EnrolCategory, Load}
 use Rattle.script.specs.declared.reading.Kind.{Kind}
@@ -71,7 +71,39 @@ namesFile Engagement = false
 namesFile RecordOf = false
 namesFile Unknown = false
 
--- A LINE IS READ: what it says is what is asked, and the name of a file goes to the end of its line
-pub record Read (line : List ℕ) (r : Line) (a : Asked) : Type 0 where
-  pub says : asked line r ≡ a
-  pub named : namesFile (r .kind) ≡ true → (r .first < length line) × (r .second ≡ length line)
+-- where the k-th field of a line ends, field 0 being its letter: after the bytes of the fields up to it and the commas between them
+unfoldable pub endOf : List (List ℕ) → ℕ → ℕ
+endOf fs k = sumOver (take (suc k) fs) length + k
+
+-- a line without powers
+abbrev pub plain : Kind → ℕ → ℕ → ℕ → ℕ → Line
+plain kind first second day n =
+    record { kind = kind; first = first; second = second; day = day; number = n; from = 0; count = 0 }
+
+-- a line as it is read, by what it asks and where its fields end
+abbrev pub callAs : (ℕ → ℕ) → Call.Call → Line
+callAs end (Call.advance day minute) = plain (Calls Advance) 0 0 day minute
+callAs end (Call.enrolActor code first last) = plain (Calls EnrolActor) (end 1) 0 first last
+callAs end (Call.enrolCategory text) = plain (Calls EnrolCategory) (end 1) 0 0 0
+callAs end (Call.load actor category day approved powers) =
+    record {
+      kind = Calls Load;
+      first = end 1;
+      second = end 2;
+      day = day;
+      number = approved;
+      from = end 4 + 1;
+      count = length powers;
+    }
+callAs end (Call.file entry submitter form) = plain Unknown 0 0 0 0
+
+abbrev pub readAs : (ℕ → ℕ) → Asked → Line
+readAs end (calls call) = callAs end call
+readAs end (fileOf submitter name) = plain Files (end 1) (end 2) 0 0
+readAs end (engagement actor category day s) = plain Engagement (end 1) (end 2) day s
+readAs end (recordOf asker id) = plain RecordOf (end 1) 0 0 id
+readAs end unknown = plain Unknown 0 0 0 0
+
+-- A LINE AS IT IS READ
+unfoldable pub lineRead : List ℕ → Line
+lineRead line = readAs (endOf (fields line)) (lineOf line)

@@ -3,18 +3,22 @@ use mathlib.Core.Path.{_≡_}
 use mathlib.Core.Bool.{true, cond}
 use mathlib.Core.List.{List, _∷_}
 use Prim.Native.Nat.{ℕ, _+_, _≤_, _<_}
-use lib.ListN.{length}
+use lib.ListN.{length, take}
 use Rattle.lists.specs.Searches.{every}
 use Rattle.script.specs.Numbers.{isNumber, valueOf}
 use Rattle.script.specs.Fields.{fieldsFrom, numberIn}
-use Rattle.script.specs.Spans.{cut}
-use Rattle.script.specs.declared.fields.Numeral.{Numeral}
+use Rattle.script.specs.Spans.{cut, start}
+use Rattle.script.specs.declared.numbers.Numeral.{Numeral}
 
 -- where the field that starts at a place ends: it is the line's span up to there, and the other fields start after it
 pub record FieldEnd (line : List ℕ) (from end : ℕ) : Type 0 where
   pub after : from ≤ end
   pub inside : end ≤ length line
   pub parts : fieldsFrom line from ≡ cut line from end ∷ fieldsFrom line (end + 1)
+
+-- the fields of a line that begins with a letter and a comma
+abbrev pub lettered : List ℕ → List (List ℕ)
+lettered line = take 1 line ∷ fieldsFrom line start
 
 -- the bytes from a place to before another are a number, and more bytes follow
 pub record Spelt (line : List ℕ) (from v end : ℕ) : Type 0 where

@@ -1,10 +1,9 @@
-// The fields of a line: where they end, and what those that are dates or numbers stand for.
+// The fields of a line: where they end, and the days of those that are dates.
 ghost use mathlib.Core.Path.{_≡_};
-ghost use Prim.Native.Nat.{_+_, _*_, _≤_};
+ghost use Prim.Native.Nat.{_≤_};
 ghost use lib.ListN.{length};
 ghost use Rattle.script.specs.Numbers.{dayIn};
-ghost use Rattle.script.specs.Fields.{fieldsFrom, numberIn};
-ghost use Rattle.script.specs.Walking.{FieldEnd, Spelt, NumberRead, countIn};
+ghost use Rattle.script.specs.Walking.{FieldEnd};
 use calendar::DAYS;
 use calendar::Day;
 use calendar::day_of;
@@ -12,23 +11,12 @@ use lists::bytes::byte_from;
 use lists::bytes::far_byte_from;
 use lists::bytes::has_byte;
 
-// The least number that has more than five digits: what stands for a text that is no number.
-pub(crate) const NUMBER_END: u32 = 100000;
-
 // Where the field that starts at a place ends: at the next comma, or at the end of the line.
 pub(crate) fn field_end(line: &[u8], from: usize) -> usize
     requires { ⌜ from ≤ length (now line) ⌝ }
     ensures { λ r. ⌜ FieldEnd (now (line .entry)) from r ⌝ }
 {
     byte_from(line, from, b',')
-}
-
-// Where a field that may be long ends.
-pub(crate) fn text_end(line: &[u8], from: usize) -> usize
-    requires { ⌜ from ≤ length (now line) ⌝ }
-    ensures { λ r. ⌜ FieldEnd (now (line .entry)) from r ⌝ }
-{
-    far_byte_from(line, from, b',')
 }
 
 // Where a field that is likely a date ends: its eight bytes are passed at once where none is a comma.
@@ -45,6 +33,28 @@ pub(crate) fn date_end(line: &[u8], from: usize) -> usize
     byte_from(line, from, b',')
 }
 
+// Where a field that is likely a code ends: its sixteen bytes are passed at once where none is a comma.
+pub(crate) fn code_end(line: &[u8], from: usize) -> usize
+    requires { ⌜ from ≤ length (now line) ⌝ }
+    ensures { λ r. ⌜ FieldEnd (now (line .entry)) from r ⌝ }
+{
+    if 16 <= line.len() - from {
+        let next = from + 16;
+        if !has_byte(&line[from..next], b',') {
+            return byte_from(line, next, b',');
+        }
+    }
+    byte_from(line, from, b',')
+}
+
+// Where a field that is likely the name of a file ends: it is long.
+pub(crate) fn name_end(line: &[u8], from: usize) -> usize
+    requires { ⌜ from ≤ length (now line) ⌝ }
+    ensures { λ r. ⌜ FieldEnd (now (line .entry)) from r ⌝ }
+{
+    far_byte_from(line, from, b',')
+}
+
 // The day of a date; the number of days where a text is no date.
 pub(crate) fn day_in(s: &[u8]) -> u32
     ensures { λ r. ⌜ r ≡ dayIn (now (s .entry)) ⌝ }
@@ -53,137 +63,4 @@ pub(crate) fn day_in(s: &[u8]) -> u32
         Day::Number(n) => n,
         Day::NoDay => DAYS,
     }
-}
-
-// The number of one to five digits without needless zeros; 100,000 where a text is none.
-pub(crate) fn number_in(s: &[u8]) -> u32
-    ensures { λ r. ⌜ r ≡ numberIn (now (s .entry)) ⌝ }
-{
-    let n = s.len();
-    if n == 0 {
-        return NUMBER_END;
-    }
-    if 5 < n {
-        return NUMBER_END;
-    }
-    if (n != 1) & (s[0] == b'0') {
-        return NUMBER_END;
-    }
-    let mut v: u32 = 0;
-    let mut i: usize = 0;
-    while i < n {
-        let b = s[i];
-        if b < b'0' {
-            return NUMBER_END;
-        }
-        if b'9' < b {
-            return NUMBER_END;
-        }
-        v = v * 10 + (b - b'0') as u32;
-        i += 1;
-    }
-    v
-}
-
-// A field that is a number or should be: whether it is one, which (100,000 where it is none), and where the field ends.
-pub(crate) struct Numeral {
-    pub good: bool,
-    pub value: u32,
-    pub end: usize,
-}
-
-// The field that starts at a place: it is searched for its comma, then read.
-fn parted_number(line: &[u8], from: usize) -> Numeral
-    requires { ⌜ from ≤ length (now line) ⌝ }
-    ensures { λ r. ⌜ NumberRead (now (line .entry)) from r ⌝ }
-{
-    let end = field_end(line, from);
-    let value = number_in(&line[from..end]);
-    Numeral {
-        good: value < NUMBER_END,
-        value,
-        end,
-    }
-}
-
-// The same, where the bytes before a place are digits that are a number: it ends there if a comma does.
-fn ended_number(line: &[u8], from: usize, value: u32, end: usize) -> Numeral
-    requires { ⌜ Spelt (now line) from value end ⌝ }
-    ensures { λ r. ⌜ NumberRead (now (line .entry)) from r ⌝ }
-{
-    if line[end] == b',' {
-        return Numeral {
-            good: true,
-            value,
-            end,
-        };
-    }
-    parted_number(line, from)
-}
-
-// What a digit stands for, and more than 9 where a byte is no digit.
-fn digit_value(b: u8) -> u32
-    ensures { λ r. ⌜ (r ≤ 9 → r + 48 ≡ b) ⌝ }
-{
-    if b < b'0' {
-        return b as u32 + 4294967248;
-    }
-    b as u32 - b'0' as u32
-}
-
-// The same again, in one pass over the digits where six bytes are left.
-pub(crate) fn number_from(line: &[u8], from: usize) -> Numeral
-    requires { ⌜ from ≤ length (now line) ⌝ }
-    ensures { λ r. ⌜ NumberRead (now (line .entry)) from r ⌝ }
-{
-    if line.len() - from < 6 {
-        return parted_number(line, from);
-    }
-    let one = digit_value(line[from]);
-    if 9 < one {
-        return parted_number(line, from);
-    }
-    let b = digit_value(line[from + 1]);
-    if 9 < b {
-        return ended_number(line, from, one, from + 1);
-    }
-    if one == 0 {
-        return parted_number(line, from);
-    }
-    let two = one * 10 + b;
-    let c = digit_value(line[from + 2]);
-    if 9 < c {
-        return ended_number(line, from, two, from + 2);
-    }
-    let three = two * 10 + c;
-    let d = digit_value(line[from + 3]);
-    if 9 < d {
-        return ended_number(line, from, three, from + 3);
-    }
-    let four = three * 10 + d;
-    let e = digit_value(line[from + 4]);
-    if 9 < e {
-        return ended_number(line, from, four, from + 4);
-    }
-    ended_number(line, from, four * 10 + e, from + 5)
-}
-
-// How many numbers the fields from a place on are; 0 where one of them is no number.
-pub(crate) fn count_in(line: &[u8], from: usize) -> usize
-    requires { ⌜ from ≤ length (now line) ⌝ }
-    ensures { λ r. ⌜ (r ≡ countIn (fieldsFrom (now (line .entry)) from))
-        × (r * 2 + from ≤ length (now (line .entry)) + 1) ⌝ }
-{
-    let n = line.len();
-    let mut count: usize = 0;
-    let mut at = from;
-    while at <= n {
-        let number = number_from(line, at);
-        if !number.good {
-            return 0;
-        }
-        count += 1;
-        at = number.end + 1;
-    }
-    count
 }

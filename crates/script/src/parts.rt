@@ -1,7 +1,7 @@
 // The parts of a line that was read: its texts and its powers.
 ghost use mathlib.Core.Path.{_≡_};
 ghost use Rattle.script.specs.Spans.{cut, firstText, secondText, powersRead};
-use crate::fields::number_from;
+use crate::numbers::number_from;
 use crate::reading::Line;
 use lists::numbers::least_length;
 

@@ -2,16 +2,18 @@
 ghost use mathlib.Core.Path.{_≡_};
 ghost use Prim.Native.Nat.{_≤_};
 ghost use lib.ListN.{length};
-ghost use Rattle.script.specs.Lines.{lineMost, advanceLine, enrolLine, categoryLine, loadLine, fileLine, engagementLine, recordLine, lineOf};
+ghost use Rattle.script.specs.Lines.{lineMost, advanceLine, enrolLine, categoryLine, loadLine, fileLine, engagementLine, recordLine};
 ghost use Rattle.script.specs.Fields.{fieldsFrom};
-ghost use Rattle.script.specs.Spans.{start, namesFile, Read};
-use crate::fields::NUMBER_END;
-use crate::fields::count_in;
+ghost use Rattle.script.specs.Spans.{start, namesFile, endOf, readAs, lineRead};
+ghost use Rattle.script.specs.Walking.{lettered};
+use crate::fields::code_end;
 use crate::fields::date_end;
 use crate::fields::day_in;
 use crate::fields::field_end;
-use crate::fields::number_in;
-use crate::fields::text_end;
+use crate::fields::name_end;
+use crate::numbers::NUMBER_END;
+use crate::numbers::count_in;
+use crate::numbers::number_in;
 use calendar::DAYS;
 
 // The calls of demand 3's list that are all on their line.
@@ -58,7 +60,7 @@ const UNKNOWN: Line = Line {
 // `T,date,minute`
 fn advance(line: &[u8]) -> Line
     requires { ⌜ (start ≤ length (now line)) × (length (now line) ≤ lineMost) ⌝ }
-    ensures { λ r. ⌜ Read (now (line .entry)) r (advanceLine (fieldsFrom (now (line .entry)) start)) ⌝ }
+    ensures { λ r. ⌜ r ≡ readAs (endOf (lettered (now (line .entry)))) (advanceLine (fieldsFrom (now (line .entry)) start)) ⌝ }
 {
     let n = line.len();
     let first: usize = 2;
@@ -88,10 +90,10 @@ fn advance(line: &[u8]) -> Line
 // `A,code,first,last`
 fn enrol(line: &[u8]) -> Line
     requires { ⌜ (start ≤ length (now line)) × (length (now line) ≤ lineMost) ⌝ }
-    ensures { λ r. ⌜ Read (now (line .entry)) r (enrolLine (fieldsFrom (now (line .entry)) start)) ⌝ }
+    ensures { λ r. ⌜ r ≡ readAs (endOf (lettered (now (line .entry)))) (enrolLine (fieldsFrom (now (line .entry)) start)) ⌝ }
 {
     let n = line.len();
-    let code = text_end(line, 2);
+    let code = code_end(line, 2);
     if n <= code {
         return UNKNOWN;
     }
@@ -123,7 +125,7 @@ fn enrol(line: &[u8]) -> Line
 // `C,category`
 fn category(line: &[u8]) -> Line
     requires { ⌜ (start ≤ length (now line)) × (length (now line) ≤ lineMost) ⌝ }
-    ensures { λ r. ⌜ Read (now (line .entry)) r (categoryLine (fieldsFrom (now (line .entry)) start)) ⌝ }
+    ensures { λ r. ⌜ r ≡ readAs (endOf (lettered (now (line .entry)))) (categoryLine (fieldsFrom (now (line .entry)) start)) ⌝ }
 {
     let end = field_end(line, 2);
     if end < line.len() {
@@ -139,14 +141,14 @@ fn category(line: &[u8]) -> Line
 // `F,submitter,name`
 fn file(line: &[u8]) -> Line
     requires { ⌜ (start ≤ length (now line)) × (length (now line) ≤ lineMost) ⌝ }
-    ensures { λ r. ⌜ Read (now (line .entry)) r (fileLine (fieldsFrom (now (line .entry)) start)) ⌝ }
+    ensures { λ r. ⌜ r ≡ readAs (endOf (lettered (now (line .entry)))) (fileLine (fieldsFrom (now (line .entry)) start)) ⌝ }
 {
     let n = line.len();
-    let submitter = text_end(line, 2);
+    let submitter = code_end(line, 2);
     if n <= submitter {
         return UNKNOWN;
     }
-    let end = text_end(line, submitter + 1);
+    let end = name_end(line, submitter + 1);
     if end < n {
         return UNKNOWN;
     }
@@ -161,10 +163,10 @@ fn file(line: &[u8]) -> Line
 // `E,actor,category,date,step`
 fn engagement(line: &[u8]) -> Line
     requires { ⌜ (start ≤ length (now line)) × (length (now line) ≤ lineMost) ⌝ }
-    ensures { λ r. ⌜ Read (now (line .entry)) r (engagementLine (fieldsFrom (now (line .entry)) start)) ⌝ }
+    ensures { λ r. ⌜ r ≡ readAs (endOf (lettered (now (line .entry)))) (engagementLine (fieldsFrom (now (line .entry)) start)) ⌝ }
 {
     let n = line.len();
-    let actor = text_end(line, 2);
+    let actor = code_end(line, 2);
     if n <= actor {
         return UNKNOWN;
     }
@@ -201,10 +203,10 @@ fn engagement(line: &[u8]) -> Line
 // `R,asker,id`
 fn record_of(line: &[u8]) -> Line
     requires { ⌜ (start ≤ length (now line)) × (length (now line) ≤ lineMost) ⌝ }
-    ensures { λ r. ⌜ Read (now (line .entry)) r (recordLine (fieldsFrom (now (line .entry)) start)) ⌝ }
+    ensures { λ r. ⌜ r ≡ readAs (endOf (lettered (now (line .entry)))) (recordLine (fieldsFrom (now (line .entry)) start)) ⌝ }
 {
     let n = line.len();
-    let asker = text_end(line, 2);
+    let asker = code_end(line, 2);
     if n <= asker {
         return UNKNOWN;
     }
@@ -229,10 +231,10 @@ fn record_of(line: &[u8]) -> Line
 // `L,actor,category,date,approved,` then one power or more
 fn load(line: &[u8]) -> Line
     requires { ⌜ (start ≤ length (now line)) × (length (now line) ≤ lineMost) ⌝ }
-    ensures { λ r. ⌜ Read (now (line .entry)) r (loadLine (fieldsFrom (now (line .entry)) start)) ⌝ }
+    ensures { λ r. ⌜ r ≡ readAs (endOf (lettered (now (line .entry)))) (loadLine (fieldsFrom (now (line .entry)) start)) ⌝ }
 {
     let n = line.len();
-    let actor = text_end(line, 2);
+    let actor = code_end(line, 2);
     if n <= actor {
         return UNKNOWN;
     }
@@ -271,7 +273,7 @@ fn load(line: &[u8]) -> Line
 
 // What a line asks.
 pub fn read_line(line: &[u8]) -> Line
-    ensures { λ r. ⌜ Read (now (line .entry)) r (lineOf (now (line .entry))) ⌝ }
+    ensures { λ r. ⌜ r ≡ lineRead (now (line .entry)) ⌝ }
 {
     let n = line.len();
     if 512 < n {

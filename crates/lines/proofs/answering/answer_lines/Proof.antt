@@ -92,7 +92,7 @@ add-t51 : tie.Need-add-t51 Inv-loop μ-loop
 add-t51 c =
     let r = c .before .before .before .before .before in
     let f = sym (c .before .before .before .names-file .ensures) ∙ c .before .before .if3 .taken in
-    omega (arith, named-read (r .read-line .ensures) f .inside, r .before .before .before .before .before .before .before .line-end .ensures .within)
+    omega (arith, named-read _ (r .read-line .ensures) f .inside, r .before .before .before .before .before .before .before .line-end .ensures .within)
 
 filed-requires : tie.Need-filed-requires Inv-loop μ-loop
 filed-requires c κs = search needs
@@ -118,7 +118,7 @@ loop-again-2 c =
     let l = r .before .before .before .before .before .before .before .before .before .loop in
     let w = r .read-line .ensures in
     let f = sym (c .before .before .before .before .before .before .before .before .before .before .before .before .before .before .before .before .names-file .ensures) ∙ c .before .before .before .before .before .before .before .before .before .before .before .before .before .before .before .if3 .taken in
-    (l .inv .0, goes-on (l .inv .1) (r .before .before .before .before .before .before .before .line-end .ensures) (r .before .before .before .before .before .before .if1 .left) (r .before .before .before .before .has-room .ensures) (not-false _ (r .before .before .before .if2 .left)) (file-told w _ _ _ f (c .before .before .before .before .before .filed .ensures)) (given-none (l .given) _ (not-false _ (c .before .before .before .before .before .before .before .before .before .before .before .before .before .before .if4 .left))) (r .before .wrapping-add-u64 .ensures) (c .before .before .write-answer2 .ensures) (c .before .output2 .given))
+    (l .inv .0, goes-on (l .inv .1) (r .before .before .before .before .before .before .before .line-end .ensures) (r .before .before .before .before .before .before .if1 .left) (r .before .before .before .before .has-room .ensures) (not-false _ (r .before .before .before .if2 .left)) (file-told _ w _ _ _ f (c .before .before .before .before .before .filed .ensures)) (given-none (l .given) _ (not-false _ (c .before .before .before .before .before .before .before .before .before .before .before .before .before .before .if4 .left))) (r .before .wrapping-add-u64 .ensures) (c .before .before .write-answer2 .ensures) (c .before .output2 .given))
 
 only-asks-requires : tie.Need-only-asks-requires Inv-loop μ-loop
 only-asks-requires c κs = search needs
@@ -173,7 +173,7 @@ loop-again-4 c =
     let l = r .before .before .before .before .before .before .before .before .before .loop in
     let w = r .read-line .ensures in
     let f = sym (c .before .before .before .before .before .before .before .before .before .before .before .before .before .before .before .before .before .names-file .ensures) ∙ c .before .before .before .before .before .before .before .before .before .before .before .before .before .before .before .before .if3 .left in
-    (l .inv .0, goes-on (l .inv .1) (r .before .before .before .before .before .before .before .line-end .ensures) (r .before .before .before .before .before .before .if1 .left) (r .before .before .before .before .has-room .ensures) (not-false _ (r .before .before .before .if2 .left)) (told-by _ _ _ w (c .before .before .before .before .before .answer .ensures)) (no-file w (l .given) f) (r .before .wrapping-add-u64 .ensures) (c .before .before .write-answer4 .ensures) (c .before .output4 .given))
+    (l .inv .0, goes-on (l .inv .1) (r .before .before .before .before .before .before .before .line-end .ensures) (r .before .before .before .before .before .before .if1 .left) (r .before .before .before .before .has-room .ensures) (not-false _ (r .before .before .before .if2 .left)) (told-by _ _ _ _ w (c .before .before .before .before .before .answer .ensures)) (no-file _ w (l .given) f) (r .before .wrapping-add-u64 .ensures) (c .before .before .write-answer4 .ensures) (c .before .output4 .given))
 
 same-length : tie.Need-same-length Inv-loop μ-loop
 same-length c = c .before .loop .inv .1 .as-long
@@ -212,7 +212,7 @@ returns-4 c =
     let l = r .before .before .before .before .before .before .before .before .before .loop in
     let w = r .read-line .ensures in
     let f = sym (c .before .before .before .names-file .ensures) ∙ c .before .before .if3 .taken in
-    at-file (l .inv .1) (r .before .before .before .before .before .before .before .line-end .ensures) (r .before .before .before .before .before .before .if1 .left) (r .before .before .before .before .has-room .ensures) (not-false _ (r .before .before .before .if2 .left)) (file-wanted w (l .given) f (not-true _ (c .before .if4 .taken)), λ h. named-read w f) (omega arith)
+    at-file (l .inv .1) (r .before .before .before .before .before .before .before .line-end .ensures) (r .before .before .before .before .before .before .if1 .left) (r .before .before .before .before .has-room .ensures) (not-false _ (r .before .before .before .if2 .left)) (file-wanted _ w (l .given) f (not-true _ (c .before .if4 .taken)), λ h. named-read _ w f) (omega arith)
 
 pub answer-lines-spec : {M : Type 1} → statement M
 answer-lines-spec =

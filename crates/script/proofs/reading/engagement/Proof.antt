@@ -4,11 +4,11 @@ use Rattle.script.proofs.LineKinds.{engagement-one, engagement-two, eng
 use Rattle.script.proofs.reading.engagement.Statement.{statement}
 use Rattle.script.proofs.reading.engagement.Tie as tie
 
-text-end-requires : tie.Need-text-end-requires
-text-end-requires c κs = search needs
+code-end-requires : tie.Need-code-end-requires
+code-end-requires c κs = search needs
 
 returns : tie.Need-returns
-returns c = engagement-one _ _ (c .before .text-end .ensures) (c .if1 .taken)
+returns c = engagement-one _ _ (c .before .code-end .ensures) (c .if1 .taken)
 
 add-field-end : tie.Need-add-field-end
 add-field-end c = search needs
@@ -17,7 +17,7 @@ field-end-requires : tie.Need-field-end-requires
 field-end-requires c κs = search needs
 
 returns-2 : tie.Need-returns-2
-returns-2 c = engagement-two _ _ (c .before .before .before .text-end .ensures) _ (c .before .field-end .ensures) (c .if2 .taken)
+returns-2 c = engagement-two _ _ (c .before .before .before .code-end .ensures) _ (c .before .field-end .ensures) (c .if2 .taken)
 
 add-third : tie.Need-add-third
 add-third c = search needs
@@ -26,7 +26,7 @@ date-end-requires : tie.Need-date-end-requires
 date-end-requires c κs = search needs
 
 returns-3 : tie.Need-returns-3
-returns-3 c = engagement-three _ _ (c .before .before .before .before .before .text-end .ensures) _ (c .before .before .before .field-end .ensures) _ (c .before .date-end .ensures) (c .if3 .taken)
+returns-3 c = engagement-three _ _ (c .before .before .before .before .before .code-end .ensures) _ (c .before .before .before .field-end .ensures) _ (c .before .date-end .ensures) (c .if3 .taken)
 
 add-fourth : tie.Need-add-fourth
 add-fourth c = search needs
@@ -35,7 +35,7 @@ field-end-requires-2 : tie.Need-field-end-requires-2
 field-end-requires-2 c κs = search needs
 
 returns-4 : tie.Need-returns-4
-returns-4 c = engagement-long _ _ (c .before .before .before .before .before .before .before .text-end .ensures) _ (c .before .before .before .before .before .field-end .ensures) _ (c .before .before .before .date-end .ensures) _ (c .before .field-end2 .ensures) (c .if4 .taken)
+returns-4 c = engagement-long _ _ (c .before .before .before .before .before .before .before .code-end .ensures) _ (c .before .before .before .before .before .field-end .ensures) _ (c .before .before .before .date-end .ensures) _ (c .before .field-end2 .ensures) (c .if4 .taken)
 
 sub-day-in : tie.Need-sub-day-in
 sub-day-in c = search needs
@@ -71,19 +71,19 @@ returns-5 : tie.Need-returns-5
 returns-5 c =
     let d = c .before .before .before .before .before .before in
     let b = d .before .before .before .before in
-    engagement-good _ _ (b .before .before .text-end .ensures) _ (b .field-end .ensures) _ (d .before .before .date-end .ensures) _ (d .field-end2 .ensures) (c .before .before .before .before .before .if4 .left) _ _ (c .before .before .before .day-in .ensures) (c .before .number-in .ensures) (c .if5 .taken)
+    engagement-good _ _ (b .before .before .code-end .ensures) _ (b .field-end .ensures) _ (d .before .before .date-end .ensures) _ (d .field-end2 .ensures) (c .before .before .before .before .before .if4 .left) _ _ (c .before .before .before .day-in .ensures) (c .before .number-in .ensures) (c .if5 .taken)
 
 returns-6 : tie.Need-returns-6
 returns-6 c =
     let d = c .before .before .before .before .before .before in
     let b = d .before .before .before .before in
-    engagement-bad _ _ (b .before .before .text-end .ensures) _ (b .field-end .ensures) _ (d .before .before .date-end .ensures) _ (d .field-end2 .ensures) (c .before .before .before .before .before .if4 .left) _ _ (c .before .before .before .day-in .ensures) (c .before .number-in .ensures) (c .if5 .left)
+    engagement-bad _ _ (b .before .before .code-end .ensures) _ (b .field-end .ensures) _ (d .before .before .date-end .ensures) _ (d .field-end2 .ensures) (c .before .before .before .before .before .if4 .left) _ _ (c .before .before .before .day-in .ensures) (c .before .number-in .ensures) (c .if5 .left)
 
 pub engagement-spec : {M : Type 1} → statement M
 engagement-spec =
     tie.close
     (tie.spec
-    text-end-requires
+    code-end-requires
     returns
     add-field-end
     field-end-requires

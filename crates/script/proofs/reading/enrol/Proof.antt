@@ -4,11 +4,11 @@ use Rattle.script.proofs.LineKinds.{enrol-short, enrol-shorter, enrol-l
 use Rattle.script.proofs.reading.enrol.Statement.{statement}
 use Rattle.script.proofs.reading.enrol.Tie as tie
 
-text-end-requires : tie.Need-text-end-requires
-text-end-requires c κs = search needs
+code-end-requires : tie.Need-code-end-requires
+code-end-requires c κs = search needs
 
 returns : tie.Need-returns
-returns c = enrol-short _ _ (c .before .text-end .ensures) (c .if1 .taken)
+returns c = enrol-short _ _ (c .before .code-end .ensures) (c .if1 .taken)
 
 add-second : tie.Need-add-second
 add-second c = search needs
@@ -17,7 +17,7 @@ field-end-requires : tie.Need-field-end-requires
 field-end-requires c κs = search needs
 
 returns-2 : tie.Need-returns-2
-returns-2 c = enrol-shorter _ _ (c .before .before .before .text-end .ensures) _ (c .before .field-end .ensures) (c .if2 .taken)
+returns-2 c = enrol-shorter _ _ (c .before .before .before .code-end .ensures) _ (c .before .field-end .ensures) (c .if2 .taken)
 
 add-third : tie.Need-add-third
 add-third c = search needs
@@ -26,7 +26,7 @@ field-end-requires-2 : tie.Need-field-end-requires-2
 field-end-requires-2 c κs = search needs
 
 returns-3 : tie.Need-returns-3
-returns-3 c = enrol-long _ _ (c .before .before .before .before .before .text-end .ensures) _ (c .before .before .before .field-end .ensures) _ (c .before .field-end2 .ensures) (c .if3 .taken)
+returns-3 c = enrol-long _ _ (c .before .before .before .before .before .code-end .ensures) _ (c .before .before .before .field-end .ensures) _ (c .before .field-end2 .ensures) (c .if3 .taken)
 
 sub-day-in : tie.Need-sub-day-in
 sub-day-in c = search needs
@@ -58,20 +58,20 @@ cast-t26 c = search needs
 returns-4 : tie.Need-returns-4
 returns-4 c =
     let d = c .before .before .before .before .before .before in
-    let a = d .before .before .before .before .text-end .ensures in
+    let a = d .before .before .before .before .code-end .ensures in
     enrol-good _ _ a _ (d .before .before .field-end .ensures) _ (d .field-end2 .ensures) (c .before .before .before .before .before .if3 .left) _ _ (c .before .before .before .day-in .ensures) (c .before .day-in2 .ensures) (c .if4 .taken)
 
 returns-5 : tie.Need-returns-5
 returns-5 c =
     let d = c .before .before .before .before .before .before in
-    let a = d .before .before .before .before .text-end .ensures in
+    let a = d .before .before .before .before .code-end .ensures in
     enrol-bad _ _ a _ (d .before .before .field-end .ensures) _ (d .field-end2 .ensures) (c .before .before .before .before .before .if3 .left) _ _ (c .before .before .before .day-in .ensures) (c .before .day-in2 .ensures) (c .if4 .left)
 
 pub enrol-spec : {M : Type 1} → statement M
 enrol-spec =
     tie.close
     (tie.spec
-    text-end-requires
+    code-end-requires
     returns
     add-second
     field-end-requires

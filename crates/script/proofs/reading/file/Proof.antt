@@ -4,20 +4,20 @@ use Rattle.script.proofs.LineKinds.{file-short, file-long, file-good}
 use Rattle.script.proofs.reading.file.Statement.{statement}
 use Rattle.script.proofs.reading.file.Tie as tie
 
-text-end-requires : tie.Need-text-end-requires
-text-end-requires c κs = search needs
+code-end-requires : tie.Need-code-end-requires
+code-end-requires c κs = search needs
 
 returns : tie.Need-returns
-returns c = file-short _ _ (c .before .text-end .ensures) (c .if1 .taken)
+returns c = file-short _ _ (c .before .code-end .ensures) (c .if1 .taken)
 
-add-text-end : tie.Need-add-text-end
-add-text-end c = search needs
+add-name-end : tie.Need-add-name-end
+add-name-end c = search needs
 
-text-end-requires-2 : tie.Need-text-end-requires-2
-text-end-requires-2 c κs = search needs
+name-end-requires : tie.Need-name-end-requires
+name-end-requires c κs = search needs
 
 returns-2 : tie.Need-returns-2
-returns-2 c = file-long _ _ (c .before .before .before .text-end .ensures) _ (c .before .text-end2 .ensures) (c .if2 .taken)
+returns-2 c = file-long _ _ (c .before .before .before .code-end .ensures) _ (c .before .name-end .ensures) (c .if2 .taken)
 
 cast-t10 : tie.Need-cast-t10
 cast-t10 c = search needs
@@ -26,16 +26,16 @@ cast-t11 : tie.Need-cast-t11
 cast-t11 c = search needs
 
 returns-3 : tie.Need-returns-3
-returns-3 c = file-good _ _ (c .before .before .before .text-end .ensures) _ (c .before .text-end2 .ensures) (c .before .before .if1 .left) (c .if2 .left)
+returns-3 c = file-good _ _ (c .before .before .before .code-end .ensures) _ (c .before .name-end .ensures) (c .if2 .left)
 
 pub file-spec : {M : Type 1} → statement M
 file-spec =
     tie.close
     (tie.spec
-    text-end-requires
+    code-end-requires
     returns
-    add-text-end
-    text-end-requires-2
+    add-name-end
+    name-end-requires
     returns-2
     cast-t10
     cast-t11

@@ -1,15 +1,14 @@
 -- Each way through the fields.
 use borrow.Author.Needs.{needs}
-use native.Mathlib.Omega.{arith}
 use Rattle.script.proofs.LoadLines.{load-one, load-two, load-three, load-four, load-bad, load-good}
 use Rattle.script.proofs.reading.load.Statement.{statement}
 use Rattle.script.proofs.reading.load.Tie as tie
 
-text-end-requires : tie.Need-text-end-requires
-text-end-requires c κs = search needs
+code-end-requires : tie.Need-code-end-requires
+code-end-requires c κs = search needs
 
 returns : tie.Need-returns
-returns c = load-one _ _ (c .before .text-end .ensures) (c .if1 .taken)
+returns c = load-one _ _ (c .before .code-end .ensures) (c .if1 .taken)
 
 add-field-end : tie.Need-add-field-end
 add-field-end c = search needs
@@ -18,7 +17,7 @@ field-end-requires : tie.Need-field-end-requires
 field-end-requires c κs = search needs
 
 returns-2 : tie.Need-returns-2
-returns-2 c = load-two _ _ (c .before .before .before .text-end .ensures) _ (c .before .field-end .ensures) (c .if2 .taken)
+returns-2 c = load-two _ _ (c .before .before .before .code-end .ensures) _ (c .before .field-end .ensures) (c .if2 .taken)
 
 add-third : tie.Need-add-third
 add-third c = search needs
@@ -27,7 +26,7 @@ date-end-requires : tie.Need-date-end-requires
 date-end-requires c κs = search needs
 
 returns-3 : tie.Need-returns-3
-returns-3 c = load-three _ _ (c .before .before .before .before .before .text-end .ensures) _ (c .before .before .before .field-end .ensures) _ (c .before .date-end .ensures) (c .if3 .taken)
+returns-3 c = load-three _ _ (c .before .before .before .before .before .code-end .ensures) _ (c .before .before .before .field-end .ensures) _ (c .before .date-end .ensures) (c .if3 .taken)
 
 add-fourth : tie.Need-add-fourth
 add-fourth c = search needs
@@ -36,7 +35,7 @@ field-end-requires-2 : tie.Need-field-end-requires-2
 field-end-requires-2 c κs = search needs
 
 returns-4 : tie.Need-returns-4
-returns-4 c = load-four _ _ (c .before .before .before .before .before .before .before .text-end .ensures) _ (c .before .before .before .before .before .field-end .ensures) _ (c .before .before .before .date-end .ensures) _ (c .before .field-end2 .ensures) (c .if4 .taken)
+returns-4 c = load-four _ _ (c .before .before .before .before .before .before .before .code-end .ensures) _ (c .before .before .before .before .before .field-end .ensures) _ (c .before .before .before .date-end .ensures) _ (c .before .field-end2 .ensures) (c .if4 .taken)
 
 sub-day-in : tie.Need-sub-day-in
 sub-day-in c = search needs
@@ -84,19 +83,19 @@ returns-5 : tie.Need-returns-5
 returns-5 c =
     let d = c .before .before .before .before .before .before .before in
     let b = d .before .before .before .before in
-    load-good _ _ (b .before .before .text-end .ensures) _ (b .field-end .ensures) _ (d .before .before .date-end .ensures) _ (d .field-end2 .ensures) (c .before .before .before .before .before .before .if4 .left) _ _ _ (c .before .before .before .before .day-in .ensures) (c .before .before .number-in .ensures) (c .before .count-in .ensures .0) (omega (arith, c .before .count-in .ensures .1, b .before .before .before .before .pre .1)) (c .if5 .taken)
+    load-good _ _ (b .before .before .code-end .ensures) _ (b .field-end .ensures) _ (d .before .before .date-end .ensures) _ (d .field-end2 .ensures) (c .before .before .before .before .before .before .if4 .left) _ _ _ (c .before .before .before .before .day-in .ensures) (c .before .before .number-in .ensures) (c .before .count-in .ensures .0) (c .if5 .taken)
 
 returns-6 : tie.Need-returns-6
 returns-6 c =
     let d = c .before .before .before .before .before .before .before in
     let b = d .before .before .before .before in
-    load-bad _ _ (b .before .before .text-end .ensures) _ (b .field-end .ensures) _ (d .before .before .date-end .ensures) _ (d .field-end2 .ensures) (c .before .before .before .before .before .before .if4 .left) _ _ _ (c .before .before .before .before .day-in .ensures) (c .before .before .number-in .ensures) (c .before .count-in .ensures .0) (c .if5 .left)
+    load-bad _ _ (b .before .before .code-end .ensures) _ (b .field-end .ensures) _ (d .before .before .date-end .ensures) _ (d .field-end2 .ensures) (c .before .before .before .before .before .before .if4 .left) _ _ _ (c .before .before .before .before .day-in .ensures) (c .before .before .number-in .ensures) (c .before .count-in .ensures .0) (c .if5 .left)
 
 pub load-spec : {M : Type 1} → statement M
 load-spec =
     tie.close
     (tie.spec
-    text-end-requires
+    code-end-requires
     returns
     add-field-end
     field-end-requires

@@ -4,11 +4,11 @@ use Rattle.script.proofs.LineKinds.{record-short, record-long, record-g
 use Rattle.script.proofs.reading.record_of.Statement.{statement}
 use Rattle.script.proofs.reading.record_of.Tie as tie
 
-text-end-requires : tie.Need-text-end-requires
-text-end-requires c κs = search needs
+code-end-requires : tie.Need-code-end-requires
+code-end-requires c κs = search needs
 
 returns : tie.Need-returns
-returns c = record-short _ _ (c .before .text-end .ensures) (c .if1 .taken)
+returns c = record-short _ _ (c .before .code-end .ensures) (c .if1 .taken)
 
 add-second : tie.Need-add-second
 add-second c = search needs
@@ -17,7 +17,7 @@ field-end-requires : tie.Need-field-end-requires
 field-end-requires c κs = search needs
 
 returns-2 : tie.Need-returns-2
-returns-2 c = record-long _ _ (c .before .before .before .text-end .ensures) _ (c .before .field-end .ensures) (c .if2 .taken)
+returns-2 c = record-long _ _ (c .before .before .before .code-end .ensures) _ (c .before .field-end .ensures) (c .if2 .taken)
 
 sub-number-in : tie.Need-sub-number-in
 sub-number-in c = search needs
@@ -35,16 +35,16 @@ cast-t16 : tie.Need-cast-t16
 cast-t16 c = search needs
 
 returns-3 : tie.Need-returns-3
-returns-3 c = record-good _ _ (c .before .before .before .before .before .before .text-end .ensures) _ (c .before .before .before .before .field-end .ensures) (c .before .before .before .if2 .left) _ (c .before .number-in .ensures) (c .if3 .taken)
+returns-3 c = record-good _ _ (c .before .before .before .before .before .before .code-end .ensures) _ (c .before .before .before .before .field-end .ensures) (c .before .before .before .if2 .left) _ (c .before .number-in .ensures) (c .if3 .taken)
 
 returns-4 : tie.Need-returns-4
-returns-4 c = record-bad _ _ (c .before .before .before .before .before .before .text-end .ensures) _ (c .before .before .before .before .field-end .ensures) (c .before .before .before .if2 .left) _ (c .before .number-in .ensures) (c .if3 .left)
+returns-4 c = record-bad _ _ (c .before .before .before .before .before .before .code-end .ensures) _ (c .before .before .before .before .field-end .ensures) (c .before .before .before .if2 .left) _ (c .before .number-in .ensures) (c .if3 .left)
 
 pub record-of-spec : {M : Type 1} → statement M
 record-of-spec =
     tie.close
     (tie.spec
-    text-end-requires
+    code-end-requires
     returns
     add-second
     field-end-requires

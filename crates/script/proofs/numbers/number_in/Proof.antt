@@ -4,8 +4,8 @@ use Prim.Native.Nat.{_-_}
 use native.Mathlib.Omega.{arith}
 use lib.ListN.{length}
 use Rattle.script.proofs.Numerals.{is-none, empty-none, long-none, needless-none, Sofar, sofar-none, sofar-below, sofar-above, sofar-more, sofar-room, sofar-all}
-use Rattle.script.proofs.fields.number_in.Statement.{statement}
-use Rattle.script.proofs.fields.number_in.Tie as tie
+use Rattle.script.proofs.numbers.number_in.Statement.{statement}
+use Rattle.script.proofs.numbers.number_in.Tie as tie
 
 abbrev Inv-loop : tie.InvT-loop
 Inv-loop s n v₀ i₀ v i = Sofar s i v

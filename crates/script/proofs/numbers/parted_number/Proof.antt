@@ -2,8 +2,8 @@
 use borrow.Author.Needs.{needs}
 use native.Mathlib.Omega.{arith}
 use Rattle.script.proofs.Spelling.{number-parted}
-use Rattle.script.proofs.fields.parted_number.Statement.{statement}
-use Rattle.script.proofs.fields.parted_number.Tie as tie
+use Rattle.script.proofs.numbers.parted_number.Statement.{statement}
+use Rattle.script.proofs.numbers.parted_number.Tie as tie
 
 field-end-requires : tie.Need-field-end-requires
 field-end-requires c κs = search needs

@@ -5,8 +5,8 @@ use Prim.Native.Nat.{_+_, _-_}
 use native.Mathlib.Omega.{arith}
 use lib.ListN.{length}
 use Rattle.script.proofs.Powers.{Counted, counted-none, counted-bad, counted-more, counted-all}
-use Rattle.script.proofs.fields.count_in.Statement.{statement}
-use Rattle.script.proofs.fields.count_in.Tie as tie
+use Rattle.script.proofs.numbers.count_in.Statement.{statement}
+use Rattle.script.proofs.numbers.count_in.Tie as tie
 
 abbrev Inv-loop : tie.InvT-loop
 Inv-loop line from n count₀ at₀ count at = Counted line from at count

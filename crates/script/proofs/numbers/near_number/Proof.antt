@@ -1,21 +1,19 @@
 -- Digit after digit: the bytes so far are a number, and its field ends where a comma does.
 use borrow.Author.Needs.{needs}
 use mathlib.Core.Path.{_≡_}
+use mathlib.Core.Bool.{false≢true}
 use Prim.Native.Nat.{_+_, _≤_}
 use native.Mathlib.Omega.{arith}
 use lib.ListN.{length, getD}
 use Rattle.script.proofs.Spelling.{spelt-one, spelt-more}
-use Rattle.script.proofs.fields.number_from.Statement.{statement}
-use Rattle.script.proofs.fields.number_from.Tie as tie
+use Rattle.script.proofs.numbers.near_number.Statement.{statement}
+use Rattle.script.proofs.numbers.near_number.Tie as tie
 
 sub-if1 : tie.Need-sub-if1
 sub-if1 c = search needs
 
-parted-number-requires : tie.Need-parted-number-requires
-parted-number-requires c κs = search needs
-
 returns : tie.Need-returns
-returns c = c .parted-number .ensures
+returns c = λ t. absurd (false≢true t)
 
 shared-slice-read-digit-value : tie.Need-shared-slice-read-digit-value
 shared-slice-read-digit-value c = search needs
@@ -23,11 +21,8 @@ shared-slice-read-digit-value c = search needs
 digit-value-requires : tie.Need-digit-value-requires
 digit-value-requires c κs = search needs
 
-parted-number-requires-2 : tie.Need-parted-number-requires-2
-parted-number-requires-2 c κs = search needs
-
 returns-2 : tie.Need-returns-2
-returns-2 c = c .parted-number2 .ensures
+returns-2 c = λ t. absurd (false≢true t)
 
 add-digit-value : tie.Need-add-digit-value
 add-digit-value c = search needs
@@ -53,11 +48,8 @@ ended-number-requires c κs =
 returns-3 : tie.Need-returns-3
 returns-3 c = c .ended-number .ensures
 
-parted-number-requires-3 : tie.Need-parted-number-requires-3
-parted-number-requires-3 c κs = search needs
-
 returns-4 : tie.Need-returns-4
-returns-4 c = c .parted-number3 .ensures
+returns-4 c = λ t. absurd (false≢true t)
 
 mul-two : tie.Need-mul-two
 mul-two c = search needs
@@ -191,16 +183,14 @@ ended-number-requires-5 c κs =
 returns-8 : tie.Need-returns-8
 returns-8 c = c .ended-number5 .ensures
 
-pub number-from-spec : {M : Type 1} → statement M
-number-from-spec =
+pub near-number-spec : {M : Type 1} → statement M
+near-number-spec =
     tie.close
     (tie.spec
     sub-if1
-    parted-number-requires
     returns
     shared-slice-read-digit-value
     digit-value-requires
-    parted-number-requires-2
     returns-2
     add-digit-value
     shared-slice-read-digit-value-2
@@ -208,7 +198,6 @@ number-from-spec =
     add-ended-number
     ended-number-requires
     returns-3
-    parted-number-requires-3
     returns-4
     mul-two
     add-two
