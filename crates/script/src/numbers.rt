@@ -55,7 +55,7 @@ const NOT_NEAR: Numeral = Numeral {
 };
 
 // The field that starts at a place: it is searched for its comma, then read.
-fn parted_number(line: &[u8], from: usize) -> Numeral
+pub(crate) fn parted_number(line: &[u8], from: usize) -> Numeral
     requires { ⌜ from ≤ length (now line) ⌝ }
     ensures { λ r. ⌜ NumberRead (now (line .entry)) from r ⌝ }
 {
@@ -91,7 +91,7 @@ fn ended_number(line: &[u8], from: usize, value: u32, end: usize) -> Numeral
 }
 
 // The same of the digits that start at a place, in one pass over them, where six bytes are left.
-fn near_number(line: &[u8], from: usize) -> Numeral
+pub(crate) fn near_number(line: &[u8], from: usize) -> Numeral
     requires { ⌜ from ≤ length (now line) ⌝ }
     ensures { λ r. ⌜ (r .good ≡ true → NumberRead (now (line .entry)) from r) ⌝ }
 {
@@ -127,18 +127,6 @@ fn near_number(line: &[u8], from: usize) -> Numeral
     ended_number(line, from, four * 10 + e, from + 5)
 }
 
-// The field that starts at a place.
-pub(crate) fn number_from(line: &[u8], from: usize) -> Numeral
-    requires { ⌜ from ≤ length (now line) ⌝ }
-    ensures { λ r. ⌜ NumberRead (now (line .entry)) from r ⌝ }
-{
-    let near = near_number(line, from);
-    if near.good {
-        return near;
-    }
-    parted_number(line, from)
-}
-
 // How many numbers the fields from a place on are; 0 where one of them is no number.
 pub(crate) fn count_in(line: &[u8], from: usize) -> usize
     requires { ⌜ from ≤ length (now line) ⌝ }
@@ -149,7 +137,12 @@ pub(crate) fn count_in(line: &[u8], from: usize) -> usize
     let mut count: usize = 0;
     let mut at = from;
     while at <= n {
-        let number = number_from(line, at);
+        let near = near_number(line, at);
+        let number = if near.good {
+            near
+        } else {
+            parted_number(line, at)
+        };
         if !number.good {
             return 0;
         }

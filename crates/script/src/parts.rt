@@ -1,7 +1,8 @@
 // The parts of a line that was read: its texts and its powers.
 ghost use mathlib.Core.Path.{_≡_};
 ghost use Rattle.script.specs.Spans.{cut, firstText, secondText, powersRead};
-use crate::numbers::number_from;
+use crate::numbers::near_number;
+use crate::numbers::parted_number;
 use crate::reading::Line;
 use lists::numbers::least_length;
 
@@ -41,7 +42,12 @@ pub fn powers_of(line: &[u8], read: Line) -> Powers
     let mut count: usize = 0;
     let mut at = read.from as usize;
     while (count < most) & (at <= line.len()) {
-        let number = number_from(line, at);
+        let near = near_number(line, at);
+        let number = if near.good {
+            near
+        } else {
+            parted_number(line, at)
+        };
         numbers[count] = number.value;
         count += 1;
         at = number.end + 1;
