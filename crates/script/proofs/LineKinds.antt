@@ -1,4 +1,4 @@
--- Each kind of line, field by field: a line whose fields are too few or too many is unknown, and one whose fields are as many as its
+-- The kinds of lines but E and L, field by field: a line whose fields are too few or too many is unknown, and one whose fields are as many as its
 -- kind has says what their tests and values say.
 use mathlib.Core.Path.{_≡_, refl, sym, ap, ap₂, _∙_}
 use mathlib.Core.Bool.{Bool, true, false, _&&_}
@@ -7,22 +7,23 @@ use Prim.Native.Nat.{ℕ, suc, _+_, _-_, _<_, _≤_}
 use native.Mathlib.Omega.{arith}
 use lib.Dec.{ltb}
 use lib.ListN.{length, take, drop}
-use borrow.Author.Tests.{lt-ltb, le-ltb}
-use Rattle.lists.specs.Searches.{placeOf, isByte}
-use Rattle.lists.proofs.Tests.{and-right}
+use borrow.Author.Tests.{lt-ltb, le-ltb, ltb-true, ltb-false}
+use Rattle.lists.specs.Searches.{placeOf, isByte, byteFrom}
+use Rattle.lists.proofs.Tests.{by-test, and-right}
 use Rattle.calendar.specs.Dates.{dayCount}
 use Rattle.ledger.specs.Call as Call
 use Rattle.script.specs.Numbers.{numberEnd, isNumber, valueOf, dayIn, isDay}
-use Rattle.script.specs.Lines.{Asked, calls, fileOf, engagement, recordOf, unknown, comma, fields, advanceLine, enrolLine, categoryLine, fileLine, engagementLine, recordLine}
+use Rattle.script.specs.Lines.{Asked, calls, fileOf, recordOf, unknown, comma, fields, advanceLine, enrolLine, categoryLine, fileLine, recordLine}
 use Rattle.script.specs.Fields.{fieldsFrom, numberIn}
 use Rattle.script.specs.Spans.{cut, start, endOf, plain, readAs}
 use Rattle.script.specs.Walking.{FieldEnd, lettered}
 use Rattle.script.specs.declared.reading.CallKind.the-variants.{Advance, EnrolActor, EnrolCategory}
 use Rattle.script.specs.declared.reading.Kind.{Kind}
-use Rattle.script.specs.declared.reading.Kind.the-variants.{Calls, Files, Engagement, RecordOf, Unknown}
+use Rattle.script.specs.declared.reading.Kind.the-variants.{Calls, Files, RecordOf, Unknown}
 use Rattle.script.specs.declared.reading.Line.{Line}
-use Rattle.script.proofs.Parting.{restAt, from-inside, from-past, fields-parted}
+use Rattle.script.proofs.Parting.{restAt, from-inside, from-past, fields-parted, field-ends}
 use Rattle.script.proofs.Numerals.{number-test, number-value}
+use Rattle.script.proofs.Spelling.{number-last}
 use Rattle.script.proofs.FieldEnds.{end-one, end-two}
 
 abbrev pub noLine : Line
@@ -54,6 +55,16 @@ date-and-number d s day v p q = rw (p, q, number-test s)
 pub number-passed : (s : List ℕ) (v : ℕ) → v ≡ numberIn s → ltb v numberEnd ≡ true → valueOf s ≡ v
 number-passed s v q t = sym (number-value s (sym (number-test s) ∙ rw (← q) t)) ∙ sym q
 
+-- what the rest of a line is read as, by whether it is one field
+pub by-rest : {P : Type 0} (line : List ℕ) {from : ℕ} → from ≤ length line → ((end : ℕ) → FieldEnd line from end → end < length line → P)
+    → (FieldEnd line from (length line) → P) → P
+by-rest line {from} h more last =
+    let end = byteFrom comma line from in
+    let f = field-ends line {from = from} {end = end} h refl in
+    by-test (ltb end (length line))
+    (λ t. more end f (ltb-true end (length line) t))
+    (λ t. let e : end ≡ length line = omega (arith, ltb-false end (length line) t, f .inside) in last (rw e at f))
+
 -- ---- T
 
 module _ (line : List ℕ) (a : ℕ) (pa : FieldEnd line start a) where
@@ -62,23 +73,33 @@ module _ (line : List ℕ) (a : ℕ) (pa : FieldEnd line start a) where
   advance-short h = unknown-as line {a = advanceLine (fieldsFrom line start)} (rw (pa .parts, none-after line a h))
 
   module _ (b : ℕ) (pb : FieldEnd line (a + 1) b) where
-    pub advance-long : b < length line → Reads line noLine (advanceLine (fieldsFrom line start))
+    advance-long : b < length line → Reads line noLine (advanceLine (fieldsFrom line start))
     unfolding advanceLine
     advance-long h = unknown-as line {a = advanceLine (fieldsFrom line start)} (rw (pa .parts, pb .parts, some-after line b h))
 
     module _ (h : length line ≤ b) (day v : ℕ) (p : day ≡ dayIn (cut line start a)) (q : v ≡ numberIn (cut line (a + 1) b)) where
-      pub advance-good : (ltb day dayCount && ltb v numberEnd) ≡ true → Reads line (plain (Calls Advance) 0 0 day v) (advanceLine (fieldsFrom line start))
+      advance-good : (ltb day dayCount && ltb v numberEnd) ≡ true → Reads line (plain (Calls Advance) 0 0 day v) (advanceLine (fieldsFrom line start))
       unfolding advanceLine
       advance-good t =
           let e = number-passed (cut line (a + 1) b) v q (and-right (ltb day dayCount) (ltb v numberEnd) t) in
           let k = date-and-number (cut line start a) (cut line (a + 1) b) day v p q ∙ t in
           read-as line {a = calls (Call.advance day v)} {b = advanceLine (fieldsFrom line start)} refl (rw (pa .parts, pb .parts, none-after line b h, k, e, p))
 
-      pub advance-bad : (ltb day dayCount && ltb v numberEnd) ≡ false → Reads line noLine (advanceLine (fieldsFrom line start))
+      advance-bad : (ltb day dayCount && ltb v numberEnd) ≡ false → Reads line noLine (advanceLine (fieldsFrom line start))
       unfolding advanceLine
       advance-bad t =
           let k = date-and-number (cut line start a) (cut line (a + 1) b) day v p q ∙ t in
           unknown-as line {a = advanceLine (fieldsFrom line start)} (rw (pa .parts, pb .parts, none-after line b h, k))
+
+  pub advance-read : a < length line → (day v : ℕ) → day ≡ dayIn (cut line start a) → v ≡ numberIn (cut line (a + 1) (length line))
+      → (ltb day dayCount && ltb v numberEnd) ≡ true → Reads line (plain (Calls Advance) 0 0 day v) (advanceLine (fieldsFrom line start))
+  advance-read i day v p q t =
+      advance-good (length line) (number-last line (omega arith) q (and-right (ltb day dayCount) (ltb v numberEnd) t)) (omega arith) day v p q t
+
+  pub advance-rest : a < length line → (day v : ℕ) → day ≡ dayIn (cut line start a) → v ≡ numberIn (cut line (a + 1) (length line))
+      → (ltb day dayCount && ltb v numberEnd) ≡ false → Reads line noLine (advanceLine (fieldsFrom line start))
+  advance-rest i day v p q t =
+      by-rest line (omega arith) (λ b pb h. advance-long b pb h) (λ pb. advance-bad (length line) pb (omega arith) day v p q t)
 
 -- ---- A
 
@@ -148,57 +169,27 @@ module _ (line : List ℕ) (a : ℕ) (pa : FieldEnd line start a) where
   record-short h = unknown-as line {a = recordLine (fieldsFrom line start)} (rw (pa .parts, none-after line a h))
 
   module _ (b : ℕ) (pb : FieldEnd line (a + 1) b) where
-    pub record-long : b < length line → Reads line noLine (recordLine (fieldsFrom line start))
+    record-long : b < length line → Reads line noLine (recordLine (fieldsFrom line start))
     unfolding recordLine
     record-long h = unknown-as line {a = recordLine (fieldsFrom line start)} (rw (pa .parts, pb .parts, some-after line b h))
 
     module _ (h : length line ≤ b) (v : ℕ) (q : v ≡ numberIn (cut line (a + 1) b)) where
-      pub record-good : v < numberEnd → Reads line (plain RecordOf a 0 0 v) (recordLine (fieldsFrom line start))
+      record-good : v < numberEnd → Reads line (plain RecordOf a 0 0 v) (recordLine (fieldsFrom line start))
       unfolding recordLine
       record-good t =
           let e = number-passed (cut line (a + 1) b) v q (lt-ltb v numberEnd t) in
           let k : isNumber (cut line (a + 1) b) ≡ true = sym (number-test (cut line (a + 1) b)) ∙ rw (← q) (lt-ltb v numberEnd t) in
           read-as line {a = recordOf (cut line start a) v} {b = recordLine (fieldsFrom line start)} (rw (end-one pa) refl) (rw (pa .parts, pb .parts, none-after line b h, k, e))
 
-      pub record-bad : numberEnd ≤ v → Reads line noLine (recordLine (fieldsFrom line start))
+      record-bad : numberEnd ≤ v → Reads line noLine (recordLine (fieldsFrom line start))
       unfolding recordLine
       record-bad t =
           let k : isNumber (cut line (a + 1) b) ≡ false = sym (number-test (cut line (a + 1) b)) ∙ rw (← q) (le-ltb v numberEnd t) in
           unknown-as line {a = recordLine (fieldsFrom line start)} (rw (pa .parts, pb .parts, none-after line b h, k))
 
--- ---- E
+  pub record-read : a < length line → (v : ℕ) → v ≡ numberIn (cut line (a + 1) (length line)) → v < numberEnd
+      → Reads line (plain RecordOf a 0 0 v) (recordLine (fieldsFrom line start))
+  record-read i v q t = record-good (length line) (number-last line (omega arith) q (lt-ltb v numberEnd t)) (omega arith) v q t
 
-module _ (line : List ℕ) (a : ℕ) (pa : FieldEnd line start a) where
-  pub engagement-one : length line ≤ a → Reads line noLine (engagementLine (fieldsFrom line start))
-  unfolding engagementLine
-  engagement-one h = unknown-as line {a = engagementLine (fieldsFrom line start)} (rw (pa .parts, none-after line a h))
-
-  module _ (b : ℕ) (pb : FieldEnd line (a + 1) b) where
-    pub engagement-two : length line ≤ b → Reads line noLine (engagementLine (fieldsFrom line start))
-    unfolding engagementLine
-    engagement-two h = unknown-as line {a = engagementLine (fieldsFrom line start)} (rw (pa .parts, pb .parts, none-after line b h))
-
-    module _ (c : ℕ) (pc : FieldEnd line (b + 1) c) where
-      pub engagement-three : length line ≤ c → Reads line noLine (engagementLine (fieldsFrom line start))
-      unfolding engagementLine
-      engagement-three h = unknown-as line {a = engagementLine (fieldsFrom line start)} (rw (pa .parts, pb .parts, pc .parts, none-after line c h))
-
-      module _ (d : ℕ) (pd : FieldEnd line (c + 1) d) where
-        pub engagement-long : d < length line → Reads line noLine (engagementLine (fieldsFrom line start))
-        unfolding engagementLine
-        engagement-long h = unknown-as line {a = engagementLine (fieldsFrom line start)} (rw (pa .parts, pb .parts, pc .parts, pd .parts, some-after line d h))
-
-        module _ (h : length line ≤ d) (day v : ℕ) (p : day ≡ dayIn (cut line (b + 1) c)) (q : v ≡ numberIn (cut line (c + 1) d)) where
-          pub engagement-good : (ltb day dayCount && ltb v numberEnd) ≡ true → Reads line (plain Engagement a b day v) (engagementLine (fieldsFrom line start))
-          unfolding engagementLine
-          engagement-good t =
-              let e = number-passed (cut line (c + 1) d) v q (and-right (ltb day dayCount) (ltb v numberEnd) t) in
-              let k = date-and-number (cut line (b + 1) c) (cut line (c + 1) d) day v p q ∙ t in
-              read-as line {a = engagement (cut line start a) (cut line (a + 1) b) day v} {b = engagementLine (fieldsFrom line start)} (rw (end-one pa, end-two pa pb) refl)
-              (rw (pa .parts, pb .parts, pc .parts, pd .parts, none-after line d h, k, e, p))
-
-          pub engagement-bad : (ltb day dayCount && ltb v numberEnd) ≡ false → Reads line noLine (engagementLine (fieldsFrom line start))
-          unfolding engagementLine
-          engagement-bad t =
-              let k = date-and-number (cut line (b + 1) c) (cut line (c + 1) d) day v p q ∙ t in
-              unknown-as line {a = engagementLine (fieldsFrom line start)} (rw (pa .parts, pb .parts, pc .parts, pd .parts, none-after line d h, k))
+  pub record-rest : a < length line → (v : ℕ) → v ≡ numberIn (cut line (a + 1) (length line)) → numberEnd ≤ v → Reads line noLine (recordLine (fieldsFrom line start))
+  record-rest i v q t = by-rest line (omega arith) (λ b pb h. record-long b pb h) (λ pb. record-bad (length line) pb (omega arith) v q t)

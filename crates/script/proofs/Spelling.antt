@@ -11,7 +11,7 @@ use lib.Seq.{take-suc, getD-take, getD-drop, length-take-le}
 use borrow.Author.Tests.{leb-true, le-leb, ne-eqb}
 use Rattle.lists.specs.Searches.{every, some, isByte}
 use Rattle.lists.proofs.Tests.{and-left, and-right}
-use Rattle.lists.proofs.ByteSearch.{byte-here}
+use Rattle.lists.proofs.ByteSearch.{byte-here, byte-nowhere}
 use Rattle.calendar.specs.Texts.{digit}
 use Rattle.script.specs.Numbers.{numberEnd, isNumber, valueFrom, valueOf}
 use Rattle.script.specs.Lines.{comma}
@@ -82,3 +82,10 @@ module _ {line : List ℕ} {from : ℕ} where
   pub number-parted : {v end : ℕ} → FieldEnd line from end → v ≡ numberIn (cut line from end)
       → NumberRead line from (record { good = ltb v numberEnd; value = v; end = end })
   number-parted {v} {end} f q = record { ends = f; good = rw q (number-test (cut line from end)); value = q }
+
+-- a number that the line ends with is its last field
+pub number-last : (line : List ℕ) {from v : ℕ} → from ≤ length line → v ≡ numberIn (cut line from (length line)) → ltb v numberEnd ≡ true → FieldEnd line from (length line)
+number-last line {from} h q t =
+    let s = cut line from (length line) in
+    let e : isNumber s ≡ true = sym (number-test s) ∙ rw (← q) t in
+    field-past line h (omega arith) (no-comma s (number-parts s e .2)) (byte-nowhere comma line (length line) (omega arith))

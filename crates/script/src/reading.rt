@@ -1,4 +1,4 @@
-// What a line of the script asks.
+// What a line of the script asks. A number that a line ends with is its rest: one with a comma is no number.
 ghost use mathlib.Core.Path.{_≡_};
 ghost use Prim.Native.Nat.{_≤_};
 ghost use lib.ListN.{length};
@@ -69,12 +69,8 @@ fn advance(line: &[u8]) -> Line
         return UNKNOWN;
     }
     let second = date + 1;
-    let end = field_end(line, second);
-    if end < n {
-        return UNKNOWN;
-    }
     let day = day_in(&line[first..date]);
-    let minute = number_in(&line[second..end]);
+    let minute = number_in(&line[second..n]);
     if (day < DAYS) & (minute < NUMBER_END) {
         Line {
             kind: Kind::Calls(CallKind::Advance),
@@ -180,12 +176,8 @@ fn engagement(line: &[u8]) -> Line
         return UNKNOWN;
     }
     let fourth = date + 1;
-    let end = field_end(line, fourth);
-    if end < n {
-        return UNKNOWN;
-    }
     let day = day_in(&line[third..date]);
-    let step = number_in(&line[fourth..end]);
+    let step = number_in(&line[fourth..n]);
     if (day < DAYS) & (step < NUMBER_END) {
         Line {
             kind: Kind::Engagement,
@@ -211,11 +203,7 @@ fn record_of(line: &[u8]) -> Line
         return UNKNOWN;
     }
     let second = asker + 1;
-    let end = field_end(line, second);
-    if end < n {
-        return UNKNOWN;
-    }
-    let id = number_in(&line[second..end]);
+    let id = number_in(&line[second..n]);
     if id < NUMBER_END {
         Line {
             kind: Kind::RecordOf,

@@ -1,6 +1,6 @@
 -- Each way through the fields.
 use borrow.Author.Needs.{needs}
-use Rattle.script.proofs.LineKinds.{advance-short, advance-long, advance-good, advance-bad}
+use Rattle.script.proofs.LineKinds.{advance-short, advance-read, advance-rest}
 use Rattle.script.proofs.reading.advance.Statement.{statement}
 use Rattle.script.proofs.reading.advance.Tie as tie
 
@@ -12,12 +12,6 @@ returns c = advance-short _ _ (c .before .field-end .ensures) (c .if1 .taken)
 
 add-second : tie.Need-add-second
 add-second c = search needs
-
-field-end-requires-2 : tie.Need-field-end-requires-2
-field-end-requires-2 c κs = search needs
-
-returns-2 : tie.Need-returns-2
-returns-2 c = advance-long _ _ (c .before .before .before .field-end .ensures) _ (c .before .field-end2 .ensures) (c .if2 .taken)
 
 sub-day-in : tie.Need-sub-day-in
 sub-day-in c = search needs
@@ -43,11 +37,15 @@ part-number-in-end c = search needs
 number-in-requires : tie.Need-number-in-requires
 number-in-requires c κs = search needs
 
-returns-3 : tie.Need-returns-3
-returns-3 c = advance-good _ _ (c .before .before .before .before .before .before .before .before .field-end .ensures) _ (c .before .before .before .before .before .before .field-end2 .ensures) (c .before .before .before .before .before .if2 .left) _ _ (c .before .before .before .day-in .ensures) (c .before .number-in .ensures) (c .if3 .taken)
+returns-2 : tie.Need-returns-2
+returns-2 c =
+    let e = c .before .before .before .before .before in
+    advance-read _ _ (e .before .field-end .ensures) (e .if1 .left) _ _ (c .before .before .before .day-in .ensures) (c .before .number-in .ensures) (c .if2 .taken)
 
-returns-4 : tie.Need-returns-4
-returns-4 c = advance-bad _ _ (c .before .before .before .before .before .before .before .before .field-end .ensures) _ (c .before .before .before .before .before .before .field-end2 .ensures) (c .before .before .before .before .before .if2 .left) _ _ (c .before .before .before .day-in .ensures) (c .before .number-in .ensures) (c .if3 .left)
+returns-3 : tie.Need-returns-3
+returns-3 c =
+    let e = c .before .before .before .before .before in
+    advance-rest _ _ (e .before .field-end .ensures) (e .if1 .left) _ _ (c .before .before .before .day-in .ensures) (c .before .number-in .ensures) (c .if2 .left)
 
 pub advance-spec : {M : Type 1} → statement M
 advance-spec =
@@ -56,8 +54,6 @@ advance-spec =
     field-end-requires
     returns
     add-second
-    field-end-requires-2
-    returns-2
     sub-day-in
     part-day-in-start
     part-day-in-end
@@ -66,5 +62,5 @@ advance-spec =
     part-number-in-start
     part-number-in-end
     number-in-requires
-    returns-3
-    returns-4)
+    returns-2
+    returns-3)

@@ -1,6 +1,6 @@
 -- Each way through the fields.
 use borrow.Author.Needs.{needs}
-use Rattle.script.proofs.LineKinds.{engagement-one, engagement-two, engagement-three, engagement-long, engagement-good, engagement-bad}
+use Rattle.script.proofs.EngagementLines.{engagement-one, engagement-two, engagement-three, engagement-read, engagement-rest}
 use Rattle.script.proofs.reading.engagement.Statement.{statement}
 use Rattle.script.proofs.reading.engagement.Tie as tie
 
@@ -31,12 +31,6 @@ returns-3 c = engagement-three _ _ (c .before .before .before .before .before .c
 add-fourth : tie.Need-add-fourth
 add-fourth c = search needs
 
-field-end-requires-2 : tie.Need-field-end-requires-2
-field-end-requires-2 c κs = search needs
-
-returns-4 : tie.Need-returns-4
-returns-4 c = engagement-long _ _ (c .before .before .before .before .before .before .before .code-end .ensures) _ (c .before .before .before .before .before .field-end .ensures) _ (c .before .before .before .date-end .ensures) _ (c .before .field-end2 .ensures) (c .if4 .taken)
-
 sub-day-in : tie.Need-sub-day-in
 sub-day-in c = search needs
 
@@ -61,23 +55,23 @@ part-number-in-end c = search needs
 number-in-requires : tie.Need-number-in-requires
 number-in-requires c κs = search needs
 
-cast-t27 : tie.Need-cast-t27
-cast-t27 c = search needs
+cast-t25 : tie.Need-cast-t25
+cast-t25 c = search needs
 
-cast-t28 : tie.Need-cast-t28
-cast-t28 c = search needs
+cast-t26 : tie.Need-cast-t26
+cast-t26 c = search needs
+
+returns-4 : tie.Need-returns-4
+returns-4 c =
+    let e = c .before .before .before .before .before in
+    let b = e .before .before .before in
+    engagement-read _ _ (b .before .before .code-end .ensures) _ (b .field-end .ensures) _ (e .before .date-end .ensures) (e .if3 .left) _ _ (c .before .before .before .day-in .ensures) (c .before .number-in .ensures) (c .if4 .taken)
 
 returns-5 : tie.Need-returns-5
 returns-5 c =
-    let d = c .before .before .before .before .before .before in
-    let b = d .before .before .before .before in
-    engagement-good _ _ (b .before .before .code-end .ensures) _ (b .field-end .ensures) _ (d .before .before .date-end .ensures) _ (d .field-end2 .ensures) (c .before .before .before .before .before .if4 .left) _ _ (c .before .before .before .day-in .ensures) (c .before .number-in .ensures) (c .if5 .taken)
-
-returns-6 : tie.Need-returns-6
-returns-6 c =
-    let d = c .before .before .before .before .before .before in
-    let b = d .before .before .before .before in
-    engagement-bad _ _ (b .before .before .code-end .ensures) _ (b .field-end .ensures) _ (d .before .before .date-end .ensures) _ (d .field-end2 .ensures) (c .before .before .before .before .before .if4 .left) _ _ (c .before .before .before .day-in .ensures) (c .before .number-in .ensures) (c .if5 .left)
+    let e = c .before .before .before .before .before in
+    let b = e .before .before .before in
+    engagement-rest _ _ (b .before .before .code-end .ensures) _ (b .field-end .ensures) _ (e .before .date-end .ensures) (e .if3 .left) _ _ (c .before .before .before .day-in .ensures) (c .before .number-in .ensures) (c .if4 .left)
 
 pub engagement-spec : {M : Type 1} → statement M
 engagement-spec =
@@ -92,8 +86,6 @@ engagement-spec =
     date-end-requires
     returns-3
     add-fourth
-    field-end-requires-2
-    returns-4
     sub-day-in
     part-day-in-start
     part-day-in-end
@@ -102,7 +94,7 @@ engagement-spec =
     part-number-in-start
     part-number-in-end
     number-in-requires
-    cast-t27
-    cast-t28
-    returns-5
-    returns-6)
+    cast-t25
+    cast-t26
+    returns-4
+    returns-5)
