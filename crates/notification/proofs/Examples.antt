@@ -18,7 +18,7 @@ use Rattle.refusals.specs.declared.Verdict.{Verdict}
 use Rattle.refusals.specs.declared.Verdict.the-variants.{Pass, No}
 use Rattle.notification.specs.Forms.{isCode, isCategory, categoryText, digits, inPlaces, allZero}
 use Rattle.notification.specs.Writing.{nameOf, headerOf, labelsText, linesOf, bodyOf, formed, ranged, writeVerdict, writeAnswer}
-use Rattle.notification.specs.Reading.{keyIn, nameKey, headerKey, isName, isHeader, linesIn, isBody, headLine, stepLines, hasLabels, restOf, valueFrom, isPower, firstBad, powersIn, fileTests, noteIn, accepted, readFile}
+use Rattle.notification.specs.Reading.{keyIn, nameKey, headerKey, isName, isHeader, linesIn, isBody, headLine, stepLines, hasLabels, restOf, powerValueFrom, isPower, firstBad, powersIn, fileTests, noteIn, accepted, readFile}
 use Rattle.notification.specs.declared.Key.{Key}
 use Rattle.notification.specs.declared.Notification.{Notification}
 use Rattle.notification.specs.declared.Written.the-variants.{Lengths, Refused}
@@ -106,7 +106,7 @@ pub record Writer : Type 0 where
   pub past-the-day : writeAnswer (record { key = note .key; steps = 48; powers = replicate 49 1 ++ 0 ∷ [] }) 57 819 ≡ Refused (Input Range 0)
 
 pub examples : Examples
-unfolding readFile fileTests noteIn isName isHeader nameKey headerKey keyIn nameOf headerOf bodyOf linesOf labelsText formed isCode isCategory categoryText same textOf dayOf date tomorrow number valid monthLength leapDays beforeYear beforeMonth pairOf stepsOf lastSunday labelOf linesIn isBody headLine stepLines hasLabels restOf valueFrom isPower digits firstBad firstFrom powersIn inPlaces allZero joined
+unfolding readFile fileTests noteIn isName isHeader nameKey headerKey keyIn nameOf headerOf bodyOf linesOf labelsText formed isCode isCategory categoryText same textOf dayOf date tomorrow number valid monthLength leapDays beforeYear beforeMonth pairOf stepsOf lastSunday labelOf linesIn isBody headLine stepLines hasLabels restOf powerValueFrom isPower digits firstBad firstFrom powersIn inPlaces allZero joined
 examples =
     record {
       names = (refl, refl);
@@ -137,7 +137,7 @@ examples =
     }
 
 pub writer : Writer
-unfolding readFile fileTests noteIn isName isHeader nameKey headerKey keyIn nameOf headerOf bodyOf linesOf labelsText formed ranged writeVerdict writeAnswer isCode isCategory categoryText same textOf dayOf date tomorrow number valid monthLength leapDays beforeYear beforeMonth pairOf stepsOf lastSunday labelOf linesIn isBody headLine stepLines hasLabels restOf valueFrom isPower digits firstBad firstFrom powersIn inPlaces allZero joined
+unfolding readFile fileTests noteIn isName isHeader nameKey headerKey keyIn nameOf headerOf bodyOf linesOf labelsText formed ranged writeVerdict writeAnswer isCode isCategory categoryText same textOf dayOf date tomorrow number valid monthLength leapDays beforeYear beforeMonth pairOf stepsOf lastSunday labelOf linesIn isBody headLine stepLines hasLabels restOf powerValueFrom isPower digits firstBad firstFrom powersIn inPlaces allZero joined
 writer =
     record {
       wrong-form = refl;

@@ -11,20 +11,20 @@ use Rattle.lists.proofs.Tests.{by-test, and-left, and-right}
 use Rattle.lists.proofs.Searches.{same-refl, same-true}
 use Rattle.notification.specs.Forms.{digits, powerEnd}
 use Rattle.notification.specs.Writing.{powerText}
-use Rattle.notification.specs.Reading.{valueFrom, valueOf, isPower}
+use Rattle.notification.specs.Reading.{powerValueFrom, powerValue, isPower}
 
 -- one digit more
-pub value-digit : (v d : ℕ) (s : List ℕ) → d < 10 → valueFrom v ((48 + d) ∷ s) ≡ valueFrom (v * 10 + d) s
-unfolding valueFrom
+pub value-digit : (v d : ℕ) (s : List ℕ) → d < 10 → powerValueFrom v ((48 + d) ∷ s) ≡ powerValueFrom (v * 10 + d) s
+unfolding powerValueFrom
 value-digit v d s h =
     let e : 48 + d - 48 ≡ d = omega arith in
     rw (ne-eqb (48 + d) 59 (λ (z : 48 + d ≡ 59). omega arith), e)
 
-pub value-end : (v : ℕ) (s : List ℕ) → valueFrom v (59 ∷ s) ≡ v
-unfolding valueFrom
+pub value-end : (v : ℕ) (s : List ℕ) → powerValueFrom v (59 ∷ s) ≡ v
+unfolding powerValueFrom
 value-end v s = refl
 
-pub value-power : (p : ℕ) → p < powerEnd → valueOf (powerText p) ≡ p
+pub value-power : (p : ℕ) → p < powerEnd → powerValue (powerText p) ≡ p
 unfolding digits
 value-power p h =
     let ones : p % 10 < 10 = omega arith in
@@ -48,9 +48,9 @@ pub power-made : (p : ℕ) → p < powerEnd → isPower (powerText p) ≡ true
 unfolding isPower
 power-made p h = let e = value-power p h in rw (e, lt-ltb p powerEnd h) (same-refl (powerText p))
 
-pub power-back : (s : List ℕ) → isPower s ≡ true → (valueOf s < powerEnd) × (s ≡ powerText (valueOf s))
+pub power-back : (s : List ℕ) → isPower s ≡ true → (powerValue s < powerEnd) × (s ≡ powerText (powerValue s))
 unfolding isPower
 power-back s e =
-    let a = ltb (valueOf s) powerEnd in
-    let b = same s (powerText (valueOf s)) in
-    (ltb-true (valueOf s) powerEnd (and-left a b e), same-true s (powerText (valueOf s)) (and-right a b e))
+    let a = ltb (powerValue s) powerEnd in
+    let b = same s (powerText (powerValue s)) in
+    (ltb-true (powerValue s) powerEnd (and-left a b e), same-true s (powerText (powerValue s)) (and-right a b e))

@@ -8,7 +8,7 @@ use lib.Dec.{ltb, leb, eqb}
 use borrow.Author.Tests.{eqb-true, leb-true, ltb-true, ltb-false, lt-ltb, le-ltb, le-leb}
 use Rattle.lists.proofs.Tests.{by-test, true-false, and-left, and-right}
 use Rattle.notification.specs.Forms.{isDigit, digits, powerEnd}
-use Rattle.notification.specs.Reading.{valueOf, isPower}
+use Rattle.notification.specs.Reading.{powerValue, isPower}
 use Rattle.notification.proofs.Powers.{power-made, power-back}
 
 -- ---- digits, one more at a time
@@ -129,7 +129,7 @@ power-scan : (s : List ℕ) → isPower s ≡ true → scan s ≡ true
 unfolding scanFrom
 power-scan s e =
     let p = power-back s e in
-    rw (p .1) (scan-digits 3 (valueOf s) (59 ∷ []) (p .0) (p .0))
+    rw (p .1) (scan-digits 3 (powerValue s) (59 ∷ []) (p .0) (p .0))
 
 -- so the scan is the test
 pub scan-is-power : (s : List ℕ) → scan s ≡ isPower s

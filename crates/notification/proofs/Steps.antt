@@ -14,7 +14,7 @@ use Rattle.lists.proofs.Tests.{and-left, and-right, and-true}
 use Rattle.lists.proofs.Searches.{same-refl, same-true, first-before, first-none}
 use Rattle.notification.specs.Forms.{powerEnd}
 use Rattle.notification.specs.Writing.{labelsText, powerText, linesOf}
-use Rattle.notification.specs.Reading.{hasLabels, restOf, valueOf, isPower, badLine, firstBad, powersIn}
+use Rattle.notification.specs.Reading.{hasLabels, restOf, powerValue, isPower, badLine, firstBad, powersIn}
 use Rattle.notification.proofs.Lines.{inLine, joined}
 use Rattle.notification.proofs.Powers.{value-power, power-made, power-back}
 use Rattle.notification.proofs.Breaks.{line-in}
@@ -40,11 +40,11 @@ unfolding hasLabels
 line-made steps k p h =
     rw (take-append-seam (labelsText steps k) (powerText p), same-refl (labelsText steps k), line-rest steps k p) (power-made p h)
 
-pub line-value : (steps k p : ℕ) → p < powerEnd → valueOf (restOf steps k (lineOf steps k p)) ≡ p
-line-value steps k p h = ap valueOf (line-rest steps k p) ∙ value-power p h
+pub line-value : (steps k p : ℕ) → p < powerEnd → powerValue (restOf steps k (lineOf steps k p)) ≡ p
+line-value steps k p h = ap powerValue (line-rest steps k p) ∙ value-power p h
 
 pub line-back : (steps k : ℕ) (l : List ℕ) → goodLine steps k l ≡ true
-    → (valueOf (restOf steps k l) < powerEnd) × (l ≡ lineOf steps k (valueOf (restOf steps k l)))
+    → (powerValue (restOf steps k l) < powerEnd) × (l ≡ lineOf steps k (powerValue (restOf steps k l)))
 unfolding hasLabels restOf
 line-back steps k l e =
     let t = labelsText steps k in
@@ -109,7 +109,7 @@ pub powers-range : (steps k : ℕ) (ls : List (List ℕ)) → Good steps k ls �
 unfolding powersIn
 powers-range steps k [] g = refl
 powers-range steps k (l ∷ ls) g =
-    let v = valueOf (restOf steps k l) in
+    let v = powerValue (restOf steps k l) in
     and-true (inRange v) (every inRange (powersIn steps (suc k) ls))
     (lt-ltb v powerEnd (line-back steps k l (good-line steps k l ls g) .0)) (powers-range steps (suc k) ls (good-rest steps k l ls g))
 

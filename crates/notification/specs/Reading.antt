@@ -94,16 +94,16 @@ unfoldable pub restOf : ℕ → ℕ → List ℕ → List ℕ
 restOf steps k line = drop (length (labelsText steps k)) line
 
 -- the number that the digits before `;` give
-unfoldable pub valueFrom : ℕ → List ℕ → ℕ
-valueFrom v [] = v
-valueFrom v (b ∷ s) = cond (eqb b 59) v (valueFrom (v * 10 + (b - 48)) s)
+unfoldable pub powerValueFrom : ℕ → List ℕ → ℕ
+powerValueFrom v [] = v
+powerValueFrom v (b ∷ s) = cond (eqb b 59) v (powerValueFrom (v * 10 + (b - 48)) s)
 
-abbrev pub valueOf : List ℕ → ℕ
-valueOf s = valueFrom 0 s
+abbrev pub powerValue : List ℕ → ℕ
+powerValue s = powerValueFrom 0 s
 
 -- a power and `;`: the text of the power that it gives
 unfoldable pub isPower : List ℕ → Bool
-isPower s = ltb (valueOf s) powerEnd && same s (powerText (valueOf s))
+isPower s = ltb (powerValue s) powerEnd && same s (powerText (powerValue s))
 
 abbrev pub badLine : ℕ → List (List ℕ) → ℕ → Bool
 badLine steps ls k = not (hasLabels steps k (getD ls k []) && isPower (restOf steps k (getD ls k [])))
@@ -119,7 +119,7 @@ lineRefusal steps ls k = cond (not (hasLabels steps k (getD ls k []))) (Input La
 -- the powers of the lines from step k on
 unfoldable pub powersIn : ℕ → ℕ → List (List ℕ) → List ℕ
 powersIn steps k [] = []
-powersIn steps k (l ∷ ls) = valueOf (restOf steps k l) ∷ powersIn steps (suc k) ls
+powersIn steps k (l ∷ ls) = powerValue (restOf steps k l) ∷ powersIn steps (suc k) ls
 
 -- THE TABLE, 1 TO 8 IN THEIR ORDER
 

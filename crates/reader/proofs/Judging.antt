@@ -14,7 +14,7 @@ use Rattle.calendar.specs.Labels.{againAt, labelOf, labelsOf, labelsAt}
 use Rattle.calendar.specs.declared.labels.Labels.{Labels}
 use Rattle.notification.specs.Forms.{places}
 use Rattle.notification.specs.Writing.{labelText, labelsText, powerText}
-use Rattle.notification.specs.Reading.{hasLabels, restOf, valueOf, isPower}
+use Rattle.notification.specs.Reading.{hasLabels, restOf, powerValue, isPower}
 use Rattle.reader.specs.Walking.{startsWith, leadingPower, linePower}
 use Rattle.reader.specs.declared.power.Power.{Power}
 use Rattle.reader.specs.declared.power.Power.the-variants.{Is, Not}
@@ -35,20 +35,20 @@ label-few steps at = by-test (againAt steps at) (λ t. rw t (omega arith)) (λ t
 
 -- ---- a power, exactly
 
-power-whole : (s : List ℕ) (v n : ℕ) → powerIn s ≡ Is v n → n ≡ length s → (isPower s ≡ true) × (valueOf s ≡ v)
+power-whole : (s : List ℕ) (v n : ℕ) → powerIn s ≡ Is v n → n ≡ length s → (isPower s ≡ true) × (powerValue s ≡ v)
 power-whole s v n e h =
     let p = power-sound s v n e in
     let t : s ≡ powerText v = sym (take-all n s (omega arith)) ∙ p .2 in
-    (rw t (power-made v (p .0)), ap valueOf t ∙ value-power v (p .0))
+    (rw t (power-made v (p .0)), ap powerValue t ∙ value-power v (p .0))
 
 append-nil : (s : List ℕ) → s ++ [] ≡ s
 append-nil [] = refl
 append-nil (x ∷ s) = ap (λ (t : List ℕ). x ∷ t) (append-nil s)
 
-power-only : (s : List ℕ) → isPower s ≡ true → powerIn s ≡ Is (valueOf s) (length s)
+power-only : (s : List ℕ) → isPower s ≡ true → powerIn s ≡ Is (powerValue s) (length s)
 power-only s e =
     let p = power-back s e in
-    let v = valueOf s in
+    let v = powerValue s in
     let f : powerIn (powerText v) ≡ Is v (length (powerText v)) = rw append-nil at (power-found v [] (p .0)) in
     rw (← p .1) at f
 
@@ -148,7 +148,7 @@ module _ (steps k : ℕ) (line : List ℕ) (l : Labels) (h : k < steps) (g : ste
       unfolding linePower
       line-longer v n o m =
           by-test (isPower (restOf steps k line))
-          (λ b. let d : Is v n ≡ Is (valueOf (restOf steps k line)) (length (restOf steps k line)) = o ∙ (sym found-rest ∙ power-only (restOf steps k line) b) in
+          (λ b. let d : Is v n ≡ Is (powerValue (restOf steps k line)) (length (restOf steps k line)) = o ∙ (sym found-rest ∙ power-only (restOf steps k line) b) in
           let c : n ≡ length (restOf steps k line) = cc in
           absurd (m (omega (arith, rest-length, line-long))))
           (λ b. rw (has-both, b))
@@ -157,7 +157,7 @@ module _ (steps k : ℕ) (line : List ℕ) (l : Labels) (h : k < steps) (g : ste
       unfolding linePower
       line-none o =
           by-test (isPower (restOf steps k line))
-          (λ b. let d : Not ≡ Is (valueOf (restOf steps k line)) (length (restOf steps k line)) = o ∙ (sym found-rest ∙ power-only (restOf steps k line) b) in
+          (λ b. let d : Not ≡ Is (powerValue (restOf steps k line)) (length (restOf steps k line)) = o ∙ (sym found-rest ∙ power-only (restOf steps k line) b) in
           let z : _≡_ {A = ℕ} 0 1 = cc in
           absurd (omega arith))
           (λ b. rw (has-both, b))

@@ -19,7 +19,7 @@ use Rattle.refusals.specs.declared.Verdict.{Verdict}
 use Rattle.refusals.specs.declared.Verdict.the-variants.{Pass, No}
 use Rattle.refusals.proofs.Tests.{refused-pass}
 use Rattle.notification.specs.Forms.{places, inPlaces, allZero}
-use Rattle.notification.specs.Reading.{hasLabels, restOf, valueOf, isPower, badLine, firstBad, lineRefusal, powersIn}
+use Rattle.notification.specs.Reading.{hasLabels, restOf, powerValue, isPower, badLine, firstBad, lineRefusal, powersIn}
 use Rattle.reader.specs.Walking.{linePower}
 use Rattle.reader.specs.Folding.{Taken, isPass, oneMore, counted, faulted, credited, judged, firstLine, takeStep, takeSteps}
 use Rattle.reader.specs.declared.tally.LinePower.{LinePower}
@@ -105,7 +105,7 @@ module _ (steps : ℕ) (x : Taken) (l : List ℕ) (p : x .tally .verdict ≡ Pas
   line-no-power a b = line-judged ∙ rw (a, b)
 
   pub line-good : hasLabels steps k l ≡ true → isPower (restOf steps k l) ≡ true
-      → takeStep steps x l ≡ record { tally = credited (x .tally) (valueOf (restOf steps k l)); powers = set (x .powers) k (valueOf (restOf steps k l)) }
+      → takeStep steps x l ≡ record { tally = credited (x .tally) (powerValue (restOf steps k l)); powers = set (x .powers) k (powerValue (restOf steps k l)) }
   unfolding linePower
   line-good a b = line-judged ∙ rw (a, b)
 
@@ -120,7 +120,7 @@ refused-kept steps k x y r l ls e v w =
 
 -- one good line, and the lines after it
 kept-more : (steps k : ℕ) (x y : Taken) (l : List ℕ) (ls : List (List ℕ)) → takeStep steps x l ≡ y
-    → y .tally .any ≡ (x .tally .any || not (eqb (valueOf (restOf steps k l)) 0)) → y .powers ≡ set (x .powers) k (valueOf (restOf steps k l))
+    → y .tally .any ≡ (x .tally .any || not (eqb (powerValue (restOf steps k l)) 0)) → y .powers ≡ set (x .powers) k (powerValue (restOf steps k l))
     → hasLabels steps k l ≡ true → isPower (restOf steps k l) ≡ true → Kept steps (suc k) y ls → Kept steps k x (l ∷ ls)
 unfolding verdictFrom powersIn allZero
 kept-more steps k x y l ls e m w a b r =
@@ -128,7 +128,7 @@ kept-more steps k x y l ls e m w a b r =
     let u : verdictFrom steps k (l ∷ ls) ≡ verdictFrom steps (suc k) ls = rw (a, b) in
     record {
       its-verdict = ap (λ (z : Taken). z .tally .verdict) c ∙ (r .its-verdict ∙ sym u);
-      its-any = λ q. ap (λ (z : Taken). z .tally .any) c ∙ (r .its-any (sym u ∙ q) ∙ (ap (λ (t : Bool). t || not (allZero (powersIn steps (suc k) ls))) m ∙ or-zero (x .tally .any) (eqb (valueOf (restOf steps k l)) 0) (allZero (powersIn steps (suc k) ls))));
+      its-any = λ q. ap (λ (z : Taken). z .tally .any) c ∙ (r .its-any (sym u ∙ q) ∙ (ap (λ (t : Bool). t || not (allZero (powersIn steps (suc k) ls))) m ∙ or-zero (x .tally .any) (eqb (powerValue (restOf steps k l)) 0) (allZero (powersIn steps (suc k) ls))));
       its-powers = λ q. ap (λ (z : Taken). z .powers) c ∙ (r .its-powers (sym u ∙ q) ∙ ap (λ (ps : List ℕ). sets ps (suc k) (powersIn steps (suc k) ls)) w);
     }
 
@@ -139,7 +139,7 @@ lines-kept steps x [] p h g =
 lines-kept steps x (l ∷ ls) p h g =
     let k = x .tally .lines in
     let i : k < steps = omega arith in
-    let v = valueOf (restOf steps k l) in
+    let v = powerValue (restOf steps k l) in
     let y : Taken = record { tally = credited (x .tally) v; powers = set (x .powers) k v } in
     let n : y .tally .lines ≡ suc k = omega arith in
     by-test (hasLabels steps k l)

@@ -8,7 +8,7 @@ use lib.ListN.{length, getD, take, drop}
 use Rattle.lists.specs.Searches.{every, same}
 use Rattle.calendar.specs.Steps.{plainSteps}
 use Rattle.calendar.specs.Labels.{turnOf}
-use Rattle.notification.specs.Reading.{hasLabels, restOf, valueOf, isPower}
+use Rattle.notification.specs.Reading.{hasLabels, restOf, powerValue, isPower}
 use Rattle.reader.specs.declared.power.Power.{Power as PowerRead}
 use Rattle.reader.specs.declared.power.Power.the-variants.{Is, Not}
 use Rattle.reader.specs.declared.tally.LinePower.{LinePower}
@@ -41,7 +41,7 @@ leadingPower a b c d e =
 unfoldable pub linePower : ℕ → ℕ → List ℕ → LinePower
 linePower steps k line =
     cond (not (hasLabels steps k line)) NoLabels
-    (cond (not (isPower (restOf steps k line))) NoPower (Gives (valueOf (restOf steps k line))))
+    (cond (not (isPower (restOf steps k line))) NoPower (Gives (powerValue (restOf steps k line))))
 
 -- A GOOD LINE AT ONCE
 
