@@ -1,5 +1,5 @@
-// What an answer says, in document 01's numbers: the refusal's number and place, or the result's values ("The script program",
-// "Choosing the form by place").
+// What an answer says, in document 01's numbers: the refusal's number and place, or the result's values ("The script
+// program", "Choosing the form by place").
 ghost use mathlib.Core.Path.{_≡_};
 ghost use Rattle.answers.specs.Values.{saidRefused, saidNo, saidOf, saidEngaged, saidListed, saidShown};
 use ledger::Answer;
@@ -12,8 +12,8 @@ use refusals::Verdict;
 // The place of a letter among the values where none of them is one.
 const NO_LETTER: u32 = 3;
 
-// What an answer says: number and place of the refusal, 0 and 0 where there is none; how many values the result has, which of them
-// is a letter (3: none), and the values, 0 past their count.
+// What an answer says: number and place of the refusal, 0 and 0 where there is none; how many values the result has,
+// which of them is a letter (3: none), and the values, 0 past their count.
 #[repr(C)]
 pub struct Said {
     pub number: u32,

@@ -1,6 +1,8 @@
-// The clock: "a day and an elapsed minute below 30 times the day's steps", a value whose methods take it and answer the next one.
+// The clock: "a day and an elapsed minute below 30 times the day's steps", a value whose methods take it and answer the
+// next one.
 ghost use mathlib.Core.Path.{_≡_};
-ghost use Rattle.calendar.specs.Clocks.{freshClock, firstCounted, counts, replacesWhole, loadable, isMoment, isBefore, advanced};
+ghost use Rattle.calendar.specs.Clocks.{freshClock, firstCounted, counts, replacesWhole, loadable, isMoment};
+ghost use Rattle.calendar.specs.Clocks.{isBefore, advanced};
 use crate::steps::STEP_MINUTES;
 use crate::steps::steps_of;
 use refusals::InputRefusal;

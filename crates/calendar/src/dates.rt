@@ -1,9 +1,10 @@
-// Dates and day numbers: "A date is eight digits, year month day, Gregorian, 20000101 to 20991231. Its day number counts from 0
-// for 20000101, a Saturday, to 36524."
+// Dates and day numbers: "A date is eight digits, year month day, Gregorian, 20000101 to 20991231. Its day number
+// counts from 0 for 20000101, a Saturday, to 36524."
 ghost use mathlib.Core.Bool.{true};
 ghost use mathlib.Core.Path.{_≡_};
 ghost use Prim.Native.Nat.{_+_, _<_};
-ghost use Rattle.calendar.specs.Dates.{yearCount, dayCount, monthCount, leap, leapDays, beforeYear, beforeMonth, monthLength, InMonth, number, date, valid};
+ghost use Rattle.calendar.specs.Dates.{yearCount, dayCount, monthCount, leap, leapDays, beforeYear, beforeMonth};
+ghost use Rattle.calendar.specs.Dates.{monthLength, InMonth, number, date, valid};
 
 // The days of the calendar, 20000101 to 20991231.
 pub const DAYS: u32 = 36525;

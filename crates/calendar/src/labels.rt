@@ -1,5 +1,5 @@
-// The two labels of a step: "Labels are `hh:mm` pairs, 00:00;00:30 up to 23:30;24:00", but for the turn of a short and of a long
-// day.
+// The two labels of a step: "Labels are `hh:mm` pairs, 00:00;00:30 up to 23:30;24:00", but for the turn of a short and
+// of a long day.
 ghost use mathlib.Core.Path.{_≡_};
 ghost use Prim.Native.Nat.{_<_, _≤_};
 ghost use Rattle.calendar.specs.Labels.{turnOf, minuteOf, labelOf, labelsOf, labelsAt};

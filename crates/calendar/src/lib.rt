@@ -1,4 +1,5 @@
-// Days and steps (document 01, "Days and steps"): dates and day numbers, the steps of a day and their labels, the clock.
+// Days and steps (document 01, "Days and steps"): dates and day numbers, the steps of a day and their labels, the
+// clock.
 pub mod change_days;
 pub mod clock;
 pub mod dates;

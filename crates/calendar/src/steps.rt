@@ -30,7 +30,8 @@ pub fn weekday_of(day: u32) -> u32
     day % WEEK
 }
 
-// How many steps a day has; none where there is no such day. Only a Sunday is held against the table, which a call copies.
+// How many steps a day has; none where there is no such day. Only a Sunday is held against the table, which a call
+// copies.
 pub fn steps_of(day: u32) -> u32
     ensures { λ r. ⌜ r ≡ stepsOf day ⌝ }
 {

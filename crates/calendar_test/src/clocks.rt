@@ -34,8 +34,8 @@ fn counted(clock: Clock, day: u32) -> u32 {
     n
 }
 
-// A minute of a day: whether it is one, its first counted step with that step's label, and how many steps count on the day, on the
-// next one and on the one before.
+// A minute of a day: whether it is one, its first counted step with that step's label, and how many steps count on the
+// day, on the next one and on the one before.
 fn minute_line(day: u32, minute: u32)
     requires { ⌜ (1 ≤ day) × (day ≤ dayCount) ⌝ }
 {

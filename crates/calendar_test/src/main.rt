@@ -1,5 +1,6 @@
-// Prints what the calendar answers: every day in sums by year, the change days, every label, and the dates, minutes and moves of
-// the clock that document 01 names. The file `stdout` holds what a calendar written apart from this one answers.
+// Prints what the calendar answers: every day in sums by year, the change days, every label, and the dates, minutes and
+// moves of the clock that document 01 names. The file `stdout` holds what a calendar written apart from this one
+// answers.
 mod clocks;
 mod dates;
 mod days;

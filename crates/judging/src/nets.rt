@@ -1,5 +1,6 @@
-// What the ceder and the acquirer of a filing would have at the counted steps without the key's own power: loaded, plus what
-// other records let them acquire, less what those let them cede. Both are counted from a base, so that none falls below 0.
+// What the ceder and the acquirer of a filing would have at the counted steps without the key's own power: loaded, plus
+// what other records let them acquire, less what those let them cede. Both are counted from a base, so that none falls
+// below 0.
 ghost use mathlib.Core.Path.{_≡_};
 ghost use mathlib.Core.Bool.{cond, _&&_};
 ghost use mathlib.Core.List.{[]};
@@ -51,7 +52,8 @@ fn put_load(net: &mut [u32; 50], rows: &[[u16; 50]; 64], i: u32)
     }
 }
 
-// Starts a net, which stands at the base, with the powers of a load that was found, or with none.
+// Starts a net, which stands at the base, with the powers of a load that was found, or with none. The caller has just
+// made the net: to set it to its base here would be done twice.
 pub fn start_net(net: &mut [u32; 50], rows: &[[u16; 50]; 64], at: Found)
     requires { ⌜ now net ≡ replicate 50 base ⌝ }
     ensures { λ r. ⌜ Based (loadRow (now (rows .entry)) at) (now (net .exit)) ⌝ }

@@ -95,7 +95,7 @@ fn pass_record(
 }
 
 // Applies the first n records to the nets of ceder and acquirer, and notes the places of those under the filing's own
-// key. Gives how many these are.
+// key. Gives how many these are. The nets are asked to be near their base, so that no sum wraps and none is tested.
 pub fn pass_records(
     ceder: &mut [u32; 50],
     acquirer: &mut [u32; 50],

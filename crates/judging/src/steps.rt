@@ -16,7 +16,8 @@ use refusals::Verdict;
 use refusals::trying::try_at;
 use std::num::wrapping_sub_u32;
 
-// The first of the steps from `first` to before `until` at which one number is below another; `until` where there is none.
+// The first of the steps from `first` to before `until` at which one number is below another; `until` where there is
+// none.
 fn first_below(left: [u32; 50], right: [u32; 50], first: u32, until: u32) -> u32
     requires { ⌜ (first ≤ until) × (until ≤ 50) ⌝ }
     ensures { λ r. ⌜ r ≡ firstFrom (belowAt left right) first (until - first) ⌝ }
@@ -88,7 +89,8 @@ fn failing_verdict(
     try_at(v, s < until, StateRefusal::AcquirerBelow, s)
 }
 
-// Whether a number is one of the `more + 1` numbers from `least` on, by one comparison: below `least` the difference wraps.
+// Whether a number is one of the `more + 1` numbers from `least` on, by one comparison: below `least` the difference
+// wraps.
 fn is_from(x: u32, least: u32, more: u32) -> bool
     requires { ⌜ (least ≤ 4294901760) × (more ≤ 65535) ⌝ }
     ensures { λ r. ⌜ r ≡ (leb least x && leb x (least + more)) ⌝ }
@@ -130,7 +132,8 @@ fn all_fit(
     !failed
 }
 
-// 32 to 35, by the nets of ceder and acquirer. The failing step is looked for only where there is one.
+// 32 to 35, by the nets of ceder and acquirer. The failing step is looked for only where there is one. Steps, approved
+// powers and nets are asked to be in their ranges, which the register's own are, so that no sum wraps.
 pub fn step_verdict(
     ceder: &[u32; 50],
     acquirer: &[u32; 50],

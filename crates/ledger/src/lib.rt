@@ -1,4 +1,5 @@
-// What calls of the register answer. The ledger of document 01 is in specs/, what holds of every list of calls in proofs/.
+// What calls of the register answer. The ledger of document 01 is in specs/, what holds of every list of calls in
+// proofs/.
 use notification::Notification;
 use refusals::Refusal;
 use refusals::Verdict;

@@ -29,8 +29,8 @@ pub enum Wants {
     Room,
 }
 
-// How far the lines went: the register's head, how many lines were answered so far, where the next one starts, how many bytes of answers
-// wait, and what is wanted.
+// How far the lines went: the register's head, how many lines were answered so far, where the next one starts, how many
+// bytes of answers wait, and what is wanted.
 pub struct Progress {
     pub head: Head,
     pub number: u64,
@@ -49,9 +49,9 @@ fn has_room(output: &[u8], out: usize) -> bool
     out <= output.len() - LINE_ROOM
 }
 
-// Answers the lines of the input from a place on that have their LF, and puts their answers behind those that wait in the output. A line
-// that names a file is answered by what was found of it: `given` says whether that is known of the first line, `readable` whether
-// the file can be read, and `body` has its bytes.
+// Answers the lines of the input from a place on that have their LF, and puts their answers behind those that wait in
+// the output. A line that names a file is answered by what was found of it: `given` says whether that is known of the
+// first line, `readable` whether the file can be read, and `body` has its bytes.
 pub fn answer_lines(
     head: Head,
     statuses: &mut [u8; 256],

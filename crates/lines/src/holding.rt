@@ -29,8 +29,8 @@ pub fn hold(input: &mut [u8], from: usize, to: usize) -> usize
     n
 }
 
-// Gives a last line its LF, behind the bytes that are held of it, and says where the input then ends: at 0 where nothing is held, since
-// there is no such line.
+// Gives a last line its LF, behind the bytes that are held of it, and says where the input then ends: at 0 where
+// nothing is held, since there is no such line.
 pub fn end_line(input: &mut [u8], held: usize) -> usize
     ensures { λ r. ⌜ (now (input .exit) ≡ ended (now (input .entry)) held) × (r ≡ endedAt (now (input .entry)) held)
         × (r ≤ length (now (input .entry))) ⌝ }

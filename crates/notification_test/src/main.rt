@@ -1,5 +1,5 @@
-// Prints what the writer and the reader answer: the guide's example, with each refusal at several places, the file of a long day,
-// and the notifications that the writer refuses. The file `stdout` holds what a reader and a writer that were
+// Prints what the writer and the reader answer: the guide's example, with each refusal at several places, the file of a
+// long day, and the notifications that the writer refuses. The file `stdout` holds what a reader and a writer that were
 // written apart from these answer.
 mod days;
 mod faults;

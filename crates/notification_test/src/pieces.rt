@@ -30,7 +30,8 @@ fn copied(to: &mut [u8], at: usize, text: &[u8], from: usize, until: usize) -> u
     n
 }
 
-// Copies a text into a buffer, with a piece in the place of the part from one place until another, and gives the length.
+// Copies a text into a buffer, with a piece in the place of the part from one place until another, and gives the
+// length.
 pub(crate) fn replaced(to: &mut [u8], text: &[u8], from: usize, until: usize, piece: &[u8]) -> u32 {
     let first = copied(&mut *to, 0, text, 0, from);
     let second = copied(&mut *to, first, piece, 0, piece.len());

@@ -1,4 +1,5 @@
-// Texts, numbers and refusals on standard output, and sums by which texts and notifications are held against each other.
+// Texts, numbers and refusals on standard output, and sums by which texts and notifications are held against each
+// other.
 use notification::Notification;
 use refusals::Refusal;
 

@@ -64,7 +64,7 @@ fn moved_where(
     0
 }
 
-// What the first n records of a category and day move for an actor at a step.
+// What the first n records of a category and day move for an actor at a step, which 10 has been tried for.
 pub fn totals_of(
     statuses: &[u8; 256],
     keys: &[u32; 256],

@@ -121,7 +121,8 @@ fn change_at(
     }
 }
 
-// What a filing makes of the records: their statuses and until-steps. Those under its key are listed, and no other changes.
+// What a filing makes of the records: their statuses and until-steps. Those under its key are listed, and no other
+// changes. A filing that passes 28 has a first counted step that fits the byte it is put in.
 pub fn change_all(
     statuses: &mut [u8; 256],
     keys: &[u32; 256],

@@ -46,7 +46,7 @@ fn is_answered(
     same_powers(row, ps)
 }
 
-// Whether one of the records is answered; those under the key are listed.
+// Whether one of the records is answered; those under the key are listed, no more than there are places.
 pub fn is_paired(
     statuses: &[u8; 256],
     keys: &[u32; 256],

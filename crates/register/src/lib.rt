@@ -12,8 +12,9 @@ use ledger::Answer;
 use tables::actors::Actors;
 use tables::categories::Categories;
 
-// The head: the clock, who is enrolled, and how many loads and records there are. What there is one of for each load or record is
-// lent: of a load its number, its approved power and its row of powers, of a record its status, id, key, mark and row of powers.
+// The head: the clock, who is enrolled, and how many loads and records there are. What there is one of for each load or
+// record is lent: of a load its number, its approved power and its row of powers, of a record its status, id, key, mark
+// and row of powers.
 #[repr(C)]
 pub struct Head {
     pub clock: Clock,

@@ -163,7 +163,8 @@ impl Head {
         try_state(v, !in_contract(ceder, day), StateRefusal::CederContract)
     }
 
-    // What ceder and acquirer have at the counted steps, by their loads and the records; the places of those under the key are listed.
+    // What ceder and acquirer have at the counted steps, by their loads and the records; the places of those under the
+    // key are listed.
     fn nets_of(
         self,
         ceder: &mut [u32; 50],
@@ -209,8 +210,8 @@ impl Head {
         )
     }
 
-    // 31 to 35: the ceder's load, and what ceder and acquirer would have at the counted steps. Where all pass, the places of the
-    // records under the key are listed.
+    // 31 to 35: the ceder's load, and what ceder and acquirer would have at the counted steps. Where all pass, the
+    // places of the records under the key are listed.
     fn steps_fit(
         self,
         under: &mut [u8; 256],
@@ -278,7 +279,8 @@ impl Head {
         }
     }
 
-    // What a filing comes to, by its places: 20 to 36. Where it passes, the places of the records under its key are listed.
+    // What a filing comes to, by its places: 20 to 36. Where it passes, the places of the records under its key are
+    // listed.
     pub(crate) fn judge(
         self,
         under: &mut [u8; 256],

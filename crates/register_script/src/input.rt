@@ -25,7 +25,8 @@ fn failed() -> Block
     }
 }
 
-// Holds the line that starts at a place and has no end yet, and reads more input behind it. At the input's end this line is the last.
+// Holds the line that starts at a place and has no end yet, and reads more input behind it. At the input's end this
+// line is the last.
 pub(crate) fn next_block(input: &mut [u8], from: usize, to: usize) -> Block
     ensures { λ r. ⌜ r .end ≤ length (now (input .entry)) ⌝ }
 {

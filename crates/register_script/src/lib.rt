@@ -1,5 +1,6 @@
-// The script program's input and output (document 01, "The script program"): standard input in, a line for each line out. Which lines
-// there are, what they ask and what they are answered is in the crates lines, session and script; here bytes are only moved.
+// The script program's input and output (document 01, "The script program"): standard input in, a line for each line
+// out. Which lines there are, what they ask and what they are answered is in the crates lines, session and script; here
+// bytes are only moved.
 ghost use Prim.Native.Nat.{_≤_};
 
 mod bodies;
@@ -20,7 +21,8 @@ const WAITING: usize = 16384;
 // The most bytes that are read of a file: one more than a body may have, which tells one that is too long.
 const BODY: usize = 4097;
 
-// Answers standard input to its end. 0: every answer was written; 1: the answers can't be written; 2: the input can't be read.
+// Answers standard input to its end. 0: every answer was written; 1: the answers can't be written; 2: the input can't
+// be read.
 #[no_mangle]
 pub extern "C" fn register_script() -> u32
     ensures { λ r. ⌜ r ≤ 2 ⌝ }

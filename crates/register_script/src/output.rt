@@ -4,7 +4,8 @@ ghost use lib.ListN.{length};
 use crate::trying::write_some;
 use libc::STDOUT_FILENO;
 
-// Writes all bytes, in as many writes as it takes, and answers whether all were written. A write that takes nothing is the last.
+// Writes all bytes, in as many writes as it takes, and answers whether all were written. A write that takes nothing is
+// the last.
 fn write_all(bytes: &[u8]) -> bool {
     let mut done: usize = 0;
     while done < bytes.len() {

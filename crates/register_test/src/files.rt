@@ -99,8 +99,8 @@ fn under_another_name(line: &[u8]) -> File {
     }
 }
 
-// `file SUBMITTER CEDER ACQUIRER CATEGORY DATE POWER [STEP POWER]`: what the writer writes, one power at every step, or another
-// from a step on. The other two are above.
+// `file SUBMITTER CEDER ACQUIRER CATEGORY DATE POWER [STEP POWER]`: what the writer writes, one power at every step, or
+// another from a step on. The other two are above.
 pub(crate) fn file_of(line: &[u8]) -> File {
     let kind = byte_at(line, 0);
     if kind == b'b' {

@@ -2,7 +2,8 @@
 ghost use mathlib.Core.Path.{_≡_};
 ghost use Prim.Native.Nat.{_≤_};
 ghost use lib.ListN.{length};
-ghost use Rattle.script.specs.Lines.{lineMost, advanceLine, enrolLine, categoryLine, loadLine, fileLine, engagementLine, recordLine};
+ghost use Rattle.script.specs.Lines.{lineMost, advanceLine, enrolLine, categoryLine, loadLine, fileLine};
+ghost use Rattle.script.specs.Lines.{engagementLine, recordLine};
 ghost use Rattle.script.specs.Fields.{fieldsFrom};
 ghost use Rattle.script.specs.Spans.{start, namesFile, endOf, readAs, lineRead};
 ghost use Rattle.script.specs.Walking.{lettered};
@@ -33,9 +34,9 @@ pub enum Kind {
     Unknown,
 }
 
-// A line read. Texts are spans of the line: the first starts at 2 and ends before `first`, the second starts one after that and ends
-// before `second`. `day` is also an actor's first day; `number` is a minute, an actor's last day, an approved power, a step or an id.
-// The powers are `count` fields that start at `from`. What a kind doesn't have is 0.
+// A line read. Texts are spans of the line: the first starts at 2 and ends before `first`, the second starts one after
+// that and ends before `second`. `day` is also an actor's first day; `number` is a minute, an actor's last day, an
+// approved power, a step or an id. The powers are `count` fields that start at `from`. What a kind doesn't have is 0.
 pub struct Line {
     pub kind: Kind,
     pub first: u32,
@@ -60,7 +61,8 @@ const UNKNOWN: Line = Line {
 // `T,date,minute`
 fn advance(line: &[u8]) -> Line
     requires { ⌜ (start ≤ length (now line)) × (length (now line) ≤ lineMost) ⌝ }
-    ensures { λ r. ⌜ r ≡ readAs (endOf (lettered (now (line .entry)))) (advanceLine (fieldsFrom (now (line .entry)) start)) ⌝ }
+    ensures { λ r. ⌜ r ≡ readAs (endOf (lettered (now (line .entry))))
+        (advanceLine (fieldsFrom (now (line .entry)) start)) ⌝ }
 {
     let n = line.len();
     let first: usize = 2;
@@ -86,7 +88,8 @@ fn advance(line: &[u8]) -> Line
 // `A,code,first,last`
 fn enrol(line: &[u8]) -> Line
     requires { ⌜ (start ≤ length (now line)) × (length (now line) ≤ lineMost) ⌝ }
-    ensures { λ r. ⌜ r ≡ readAs (endOf (lettered (now (line .entry)))) (enrolLine (fieldsFrom (now (line .entry)) start)) ⌝ }
+    ensures { λ r. ⌜ r ≡ readAs (endOf (lettered (now (line .entry))))
+        (enrolLine (fieldsFrom (now (line .entry)) start)) ⌝ }
 {
     let n = line.len();
     let code = code_end(line, 2);
@@ -121,7 +124,8 @@ fn enrol(line: &[u8]) -> Line
 // `C,category`
 fn category(line: &[u8]) -> Line
     requires { ⌜ (start ≤ length (now line)) × (length (now line) ≤ lineMost) ⌝ }
-    ensures { λ r. ⌜ r ≡ readAs (endOf (lettered (now (line .entry)))) (categoryLine (fieldsFrom (now (line .entry)) start)) ⌝ }
+    ensures { λ r. ⌜ r ≡ readAs (endOf (lettered (now (line .entry))))
+        (categoryLine (fieldsFrom (now (line .entry)) start)) ⌝ }
 {
     let end = field_end(line, 2);
     if end < line.len() {
@@ -137,7 +141,8 @@ fn category(line: &[u8]) -> Line
 // `F,submitter,name`
 fn file(line: &[u8]) -> Line
     requires { ⌜ (start ≤ length (now line)) × (length (now line) ≤ lineMost) ⌝ }
-    ensures { λ r. ⌜ r ≡ readAs (endOf (lettered (now (line .entry)))) (fileLine (fieldsFrom (now (line .entry)) start)) ⌝ }
+    ensures { λ r. ⌜ r ≡ readAs (endOf (lettered (now (line .entry))))
+        (fileLine (fieldsFrom (now (line .entry)) start)) ⌝ }
 {
     let n = line.len();
     let submitter = code_end(line, 2);
@@ -159,7 +164,8 @@ fn file(line: &[u8]) -> Line
 // `E,actor,category,date,step`
 fn engagement(line: &[u8]) -> Line
     requires { ⌜ (start ≤ length (now line)) × (length (now line) ≤ lineMost) ⌝ }
-    ensures { λ r. ⌜ r ≡ readAs (endOf (lettered (now (line .entry)))) (engagementLine (fieldsFrom (now (line .entry)) start)) ⌝ }
+    ensures { λ r. ⌜ r ≡ readAs (endOf (lettered (now (line .entry))))
+        (engagementLine (fieldsFrom (now (line .entry)) start)) ⌝ }
 {
     let n = line.len();
     let actor = code_end(line, 2);
@@ -195,7 +201,8 @@ fn engagement(line: &[u8]) -> Line
 // `R,asker,id`
 fn record_of(line: &[u8]) -> Line
     requires { ⌜ (start ≤ length (now line)) × (length (now line) ≤ lineMost) ⌝ }
-    ensures { λ r. ⌜ r ≡ readAs (endOf (lettered (now (line .entry)))) (recordLine (fieldsFrom (now (line .entry)) start)) ⌝ }
+    ensures { λ r. ⌜ r ≡ readAs (endOf (lettered (now (line .entry))))
+        (recordLine (fieldsFrom (now (line .entry)) start)) ⌝ }
 {
     let n = line.len();
     let asker = code_end(line, 2);
@@ -219,7 +226,8 @@ fn record_of(line: &[u8]) -> Line
 // `L,actor,category,date,approved,` then one power or more
 fn load(line: &[u8]) -> Line
     requires { ⌜ (start ≤ length (now line)) × (length (now line) ≤ lineMost) ⌝ }
-    ensures { λ r. ⌜ r ≡ readAs (endOf (lettered (now (line .entry)))) (loadLine (fieldsFrom (now (line .entry)) start)) ⌝ }
+    ensures { λ r. ⌜ r ≡ readAs (endOf (lettered (now (line .entry))))
+        (loadLine (fieldsFrom (now (line .entry)) start)) ⌝ }
 {
     let n = line.len();
     let actor = code_end(line, 2);

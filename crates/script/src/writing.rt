@@ -80,8 +80,8 @@ fn put_answer(out: &mut [u8], at: usize, number: u64, said: Said) -> usize
     put_said(out, second, said)
 }
 
-// Writes the line that answers at a place of a lent buffer, the rest untouched, and gives the place after it. A buffer that has no 64
-// bytes from that place on stays as it is.
+// Writes the line that answers at a place of a lent buffer, the rest untouched, and gives the place after it. A buffer
+// that has no 64 bytes from that place on stays as it is.
 pub fn write_answer(number: u64, said: Said, out: &mut [u8], at: usize) -> usize
     ensures { λ r. ⌜ (now (out .exit) ≡ answerPut (now (out .entry)) at number said)
         × (r ≡ answerEnd (now (out .entry)) at number said) × (r ≤ at + 64) ⌝ }

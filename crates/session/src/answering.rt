@@ -13,7 +13,8 @@ use register::turning::Turn;
 use script::reading::Kind;
 use script::reading::Line;
 
-// Answers a line, by what was read of it. `readable` says whether the file that the line names can be read, and `body` has its bytes.
+// Answers a line, by what was read of it. `readable` says whether the file that the line names can be read, and `body`
+// has its bytes.
 pub fn answer(
     head: Head,
     statuses: &mut [u8; 256],

@@ -66,7 +66,8 @@ pub(crate) fn called(
     }
 }
 
-// A filing, by what was read of its line. `readable` says whether the file that it names can be read, and `body` has its bytes.
+// A filing, by what was read of its line. `readable` says whether the file that it names can be read, and `body` has
+// its bytes.
 pub fn filed(
     head: Head,
     statuses: &mut [u8; 256],

@@ -54,7 +54,7 @@ impl Actors {
         n
     }
 
-    // One actor more, where there is a place.
+    // One actor more. The enrolment that passes has tried whether there is a place.
     pub fn with(self, a: Actor) -> Actors
         requires { ⌜ self .count < 8 ⌝ }
         ensures { λ r. ⌜ (actorsIn r ≡ actorsIn self ++ (a ∷ [])) × (r ≡ moreActors self a) ⌝ }

@@ -73,7 +73,7 @@ impl Categories {
         self.place(&c)
     }
 
-    // One category more, where there is a place.
+    // One category more. The enrolment that passes has tried whether there is a place.
     pub fn with(self, z: Category) -> Categories
         requires { ⌜ self .count < 4 ⌝ }
         ensures { λ r. ⌜ (categoriesIn r ≡ categoriesIn self ++ (categoryText (z .text) ∷ []))

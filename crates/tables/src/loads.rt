@@ -21,7 +21,7 @@ pub enum Found {
     Nothing,
 }
 
-// Actor, category and day of a load as one number.
+// Actor, category and day of a load as one number: places and days in their ranges, so that no two have the same.
 pub fn load_number(actor: u32, category: u32, day: u32) -> u32
     requires { ⌜ (actor < 8) × (category < 4) × (day < 36525) ⌝ }
     ensures { λ r. ⌜ r ≡ loadNumber actor category day ⌝ }
@@ -105,7 +105,7 @@ pub fn approved_of(approved: &[u16; 64], at: Found) -> u32
     0
 }
 
-// Powers in their places, with 0 past them.
+// Powers in their places, with 0 past them. A load that passes 10 has no more than a day's steps, each below 10,000.
 pub fn in_places(powers: &[u32]) -> [u16; 50]
     requires { ⌜ (length (now powers) ≤ 50) × (every (λ p. leb p 9999) (now powers) ≡ true) ⌝ }
     ensures { λ r. ⌜ r ≡ inPlaces (now (powers .entry)) ⌝ }

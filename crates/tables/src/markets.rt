@@ -14,7 +14,8 @@ fn bit(passes: bool, weight: u32) -> u32
     if passes { weight } else { 0 }
 }
 
-// Which of four records in a row are of a category and day, as bits. Each is looked at, so that the four are compared at once.
+// Which of four records in a row are of a category and day, as bits. Each is looked at, so that the four are compared
+// at once.
 fn bits_of_four(keys: &[u32; 256], i: u32, market: u32) -> u32
     requires { ⌜ i + 4 ≤ 256 ⌝ }
     ensures { λ r. ⌜ r ≡ bitsFrom (inMarket (now (keys .entry)) market) i 4 ⌝ }
@@ -26,8 +27,8 @@ fn bits_of_four(keys: &[u32; 256], i: u32, market: u32) -> u32
         + bit(keys[at + 3] / 64 == market, 8)
 }
 
-// The place of the next of the first n records, from i on, that is of a category and day; n where there is none, or i where that is
-// above n. Both parties often file in turn, so record i is looked at first.
+// The place of the next of the first n records, from i on, that is of a category and day; n where there is none, or i
+// where that is above n. Both parties often file in turn, so record i is looked at first.
 pub fn next_of(keys: &[u32; 256], i: u32, n: u32, market: u32) -> u32
     ensures { λ r. ⌜ r ≡ firstFrom (inMarket (now (keys .entry)) market) i (min n 256 - i) ⌝ }
 {

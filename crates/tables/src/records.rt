@@ -20,7 +20,8 @@ pub const UPDATED: u8 = b'P';
 
 pub const OBSOLETE: u8 = b'O';
 
-// Ceder, acquirer, category and day of a key as one number.
+// Ceder, acquirer, category and day of a key as one number: places and days in their ranges, so that no two keys have
+// the same.
 pub fn key_number(ceder: u32, acquirer: u32, category: u32, day: u32) -> u32
     requires { ⌜ (ceder < 8) × (acquirer < 8) × (category < 4) × (day < 36525) ⌝ }
     ensures { λ r. ⌜ (r ≡ keyNumber ceder acquirer category day) × (r < 9350400) ⌝ }
