@@ -1,6 +1,6 @@
 -- Document 01's number and values for each case of an answer ("Choosing the form by place": "Where an answer is an enum, a
 -- definition sets out this paper's number and values for each of its cases").
-use mathlib.Core.List.{List, [], _∷_}
+use mathlib.Core.List.{[], _∷_}
 use Prim.Native.Nat.{ℕ}
 use Rattle.refusals.specs.Numbers.{numberOf, placeOf}
 use Rattle.refusals.specs.Tests.{decide}

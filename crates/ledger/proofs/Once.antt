@@ -1,25 +1,25 @@
 -- EACH ID ONCE, PROVED: the records of a ledger that a list of calls reaches have the ids 1, 2 and so on, in the order of their
 -- filing, since a filing takes the next id and changes no other.
-use mathlib.Core.Path.{_≡_, refl, sym, _∙_, ap, ap₂}
-use mathlib.Core.Bool.{Bool, true, false, cond, _&&_, _||_}
+use mathlib.Core.Path.{_≡_, refl, sym, _∙_, ap}
+use mathlib.Core.Bool.{Bool, true, false, cond}
 use mathlib.Core.List.{List, [], _∷_, _++_, map}
-use Prim.Native.Nat.{ℕ, suc, _+_, _≤_, _<_}
+use Prim.Native.Nat.{ℕ, suc, _+_, _<_}
 use native.Mathlib.Omega.{arith}
-use lib.Dec.{eqb, leb, ltb}
+use lib.Dec.{leb, ltb}
 use lib.ListN.{length, length-map}
 use borrow.Author.Tests.{leb-true, lt-ltb, le-leb}
-use Rattle.lists.proofs.Tests.{by-test, and-left, and-right, and-true}
+use Rattle.lists.proofs.Tests.{and-left, and-right, and-true}
 use Rattle.calendar.specs.declared.clock.Clock.{Clock}
 use Rattle.notification.specs.declared.Notification.{Notification}
 use Rattle.calendar.specs.Clocks.{replacesWhole}
 use Rattle.ledger.specs.Call.{Call}
 use Rattle.ledger.specs.Ledger.{Key, Rec, Ledger, fresh, actorAt}
-use Rattle.ledger.specs.Filing.{withStatus, deletes, ruleOne, answers, ruleTwo, replaces, ruleThree, changed, pairs, statusBy, nextId, born, filed, keyOf}
+use Rattle.ledger.specs.Filing.{deletes, ruleOne, answers, ruleTwo, replaces, changed, pairs, nextId, filed, keyOf}
 use Rattle.ledger.specs.Calls.{fileNote, step, fileAt}
-use Rattle.ledger.specs.Asking.{party, idsOf, historyOf}
+use Rattle.ledger.specs.Asking.{party, idsOf}
 use Rattle.ledger.specs.Whole.{after}
 use Rattle.ledger.specs.Once.{rising, EachOnce}
-use Rattle.ledger.proofs.Steps.{Kept, step-kept}
+use Rattle.ledger.proofs.Steps.{step-kept}
 
 -- ---- a filing changes no id
 

@@ -18,7 +18,7 @@ use Rattle.ledger.specs.Statuses.{updated}
 use Rattle.ledger.specs.Call.{Call}
 use Rattle.ledger.specs.Ledger.{Key, Rec, Ledger, fresh, actorAt, loadIs, hasLoad, loaded, approved, moved, acquired, ceded, gained, engagement}
 use Rattle.ledger.specs.Filing.{keyOf, pairs, filed}
-use Rattle.ledger.specs.Calls.{moment, withActor, withCategory, withLoad, withClock, fileNote, step, fileAt}
+use Rattle.ledger.specs.Calls.{moment, withActor, withCategory, withLoad, withClock, step, fileAt}
 use Rattle.ledger.proofs.Passed.{Fits, Fileable, LoadOk, AdvanceOk}
 use Rattle.ledger.proofs.Loads.{no-load, placed-below, load-is}
 use Rattle.ledger.proofs.Powers.{Party, Parties, Span, Spans}

@@ -13,7 +13,7 @@ use Rattle.calendar.specs.Steps.{stepsOf}
 use Rattle.calendar.specs.Clocks.{counts}
 use Rattle.ledger.specs.Call.{Call, load}
 use Rattle.ledger.specs.Ledger.{Ledger, fresh, actorAt, categoryAt, loaded, approved, power, acquired, ceded, gained, engagement}
-use Rattle.ledger.specs.Calls.{fileNote, step, fileAt}
+use Rattle.ledger.specs.Calls.{step, fileAt}
 use Rattle.ledger.specs.Asking.{engagementTests, engagedAt, askEngagement}
 use Rattle.ledger.specs.Reading.{Event, events, isAmong, actorsOf, categoriesOf, clockOf, loadedOf, approvedOf, powerOf, acquiredOf, cededOf}
 use Rattle.ledger.specs.Whole.{Asked, Holds, Demand3, after, answersTo}

@@ -1,21 +1,20 @@
 -- The read-only calls (document 01, "The ledger", "Calls" and "Order"): an actor's own engagement, a record by id, an actor's history.
-use mathlib.Core.Bool.{Bool, true, false, cond, not, _&&_, _||_}
+use mathlib.Core.Bool.{Bool, cond, not, _||_}
 use mathlib.Core.List.{List, [], _∷_, _++_}
-use Prim.Native.Nat.{ℕ, zero, suc, _+_, _-_}
-use lib.Dec.{leb, ltb, eqb}
+use Prim.Native.Nat.{ℕ, _+_}
+use lib.Dec.{ltb, eqb}
 use lib.ListN.{length, getD, drop, replicate}
-use Rattle.lists.specs.Searches.{some, placeOf}
+use Rattle.lists.specs.Searches.{placeOf}
 use Rattle.calendar.specs.Steps.{stepsOf}
 use Rattle.refusals.specs.Tests.{Test, input, state, firstMet, decide}
 use Rattle.refusals.specs.declared.Refusal.{Refusal}
-use Rattle.refusals.specs.declared.Verdict.{Verdict}
 use Rattle.refusals.specs.declared.Verdict.the-variants.{Pass, No}
 use Rattle.refusals.specs.declared.InputRefusal.the-variants.{Range}
 use Rattle.refusals.specs.declared.StateRefusal.the-variants.{ActorUnknown, CategoryUnknown, NoRecord, NotAsker, Full}
 use Rattle.notification.specs.Forms.{sixBytes}
 use Rattle.notification.specs.Reading.{blank}
 use Rattle.notification.specs.declared.Notification.{Notification}
-use Rattle.ledger.specs.Ledger.{Key, Rec, Ledger, actorAt, categoryAt, engagement}
+use Rattle.ledger.specs.Ledger.{Rec, Ledger, actorAt, categoryAt, engagement}
 use Rattle.ledger.specs.Filing.{noActor, noCategory, nobody}
 use Rattle.ledger.specs.declared.Engaged.{Engaged}
 use Rattle.ledger.specs.declared.Engaged.the-variants as Asked

@@ -1,7 +1,7 @@
 -- A filing (document 01, "The ledger" and "Refusals that come from the state"): its tests in their order, then its effect.
 use mathlib.Core.Bool.{Bool, true, false, cond, not, _&&_, _||_}
 use mathlib.Core.List.{List, [], _∷_, _++_, map}
-use Prim.Native.Nat.{ℕ, zero, suc, _+_, _-_}
+use Prim.Native.Nat.{ℕ, suc, _+_, _-_}
 use lib.Dec.{leb, ltb, eqb}
 use lib.ListN.{length, getD, replicate}
 use Rattle.lists.specs.Tests.{allBelow}
@@ -19,7 +19,7 @@ use Rattle.ledger.specs.Statuses.{created, answered, deleted, validated,
 use Rattle.ledger.specs.declared.Actor.{Actor}
 use Rattle.ledger.specs.declared.Entry.{Entry}
 use Rattle.ledger.specs.declared.Entry.the-variants.{SevenDays}
-use Rattle.ledger.specs.Ledger.{Load, Key, Rec, Ledger, recordPlaces, actorAt, categoryAt, hasLoad, approved, underKey, power, gained, ceded}
+use Rattle.ledger.specs.Ledger.{Key, Rec, Ledger, recordPlaces, actorAt, categoryAt, hasLoad, approved, underKey, power, gained, ceded}
 
 -- THE TESTS
 

@@ -1,10 +1,10 @@
 -- The ledger (document 01, "The ledger"): what it holds, and an actor's engagement by its records. Loads and records stand
 -- with the newest first. Actors and categories are known by their places of enrolment, from 0.
-use mathlib.Core.Bool.{Bool, true, false, cond, not, _&&_, _||_}
+use mathlib.Core.Bool.{Bool, cond, _&&_, _||_}
 use mathlib.Core.List.{List, [], _∷_}
-use Prim.Native.Nat.{ℕ, zero, suc, _+_, _-_}
+use Prim.Native.Nat.{ℕ, _+_, _-_}
 use lib.Dec.{leb, ltb, eqb}
-use lib.ListN.{length, getD}
+use lib.ListN.{getD}
 use Rattle.lists.specs.Searches.{same, some, placeOf}
 use Rattle.lists.specs.Sums.{sumOver}
 use Rattle.calendar.specs.Clocks.{freshClock}

@@ -5,7 +5,7 @@ use mathlib.Core.List.{List, [], _∷_}
 use Prim.Native.Nat.{ℕ}
 use lib.Dec.{leb, ltb}
 use lib.ListN.{length}
-use Rattle.ledger.specs.Ledger.{Ledger, fresh}
+use Rattle.ledger.specs.Ledger.{fresh}
 use Rattle.ledger.specs.Call.{Call}
 use Rattle.ledger.specs.Asking.{historyOf}
 use Rattle.ledger.specs.Whole.{after}

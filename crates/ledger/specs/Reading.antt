@@ -1,9 +1,9 @@
 -- The reading of a list of calls and answers (document 01, "The list of demand 3"), from arguments and answers alone. Events
 -- stand with the newest first. Nothing here looks at a ledger.
-use mathlib.Core.Bool.{Bool, true, false, cond, not, _&&_, _||_}
+use mathlib.Core.Bool.{Bool, cond, _&&_}
 use mathlib.Core.List.{List, [], _∷_, _++_}
-use Prim.Native.Nat.{ℕ, zero, suc, _+_}
-use lib.Dec.{leb, ltb, eqb}
+use Prim.Native.Nat.{ℕ, _+_}
+use lib.Dec.{leb, eqb}
 use lib.ListN.{getD}
 use Rattle.lists.specs.Searches.{same, some}
 use Rattle.lists.specs.Sums.{sumOver}

@@ -7,7 +7,7 @@ use native.Mathlib.Omega.{arith}
 use lib.ListN.{length, drop, length-drop}
 use Rattle.lists.proofs.Parts.{rest-all}
 use Rattle.lists.proofs.Tests.{by-test, true-false}
-use Rattle.script.specs.Lines.{Asked, fileOf, lineOf}
+use Rattle.script.specs.Lines.{fileOf, lineOf}
 use Rattle.script.specs.Spans.{firstText, secondText, askedOf, asked, namesFile, lineRead}
 use Rattle.script.specs.declared.reading.Kind.{Kind}
 use Rattle.script.specs.declared.reading.Kind.the-variants.{Calls, Files, Engagement, RecordOf, Unknown}

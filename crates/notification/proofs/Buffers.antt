@@ -1,6 +1,6 @@
 -- What writing answers, and what it leaves in the two lent buffers. Lengths are answered exactly where nothing refuses the
 -- notification; they are those of its two texts, and the buffers begin with these.
-use mathlib.Core.Path.{_≡_, refl, sym, _∙_}
+use mathlib.Core.Path.{_≡_, refl, _∙_}
 use mathlib.Core.Bool.{Bool, false, _||_}
 use mathlib.Core.List.{List, [], _∷_, _++_}
 use Prim.Native.Nat.{ℕ, _≤_}

@@ -2,10 +2,10 @@
 use mathlib.Core.Path.{_≡_, sym, ap, _∙_}
 use mathlib.Core.Bool.{true}
 use mathlib.Core.List.{List, [], _∷_, _++_}
-use Prim.Native.Nat.{ℕ, suc, _-_, _<_, _≤_}
+use Prim.Native.Nat.{ℕ, suc, _-_, _<_}
 use native.Mathlib.Omega.{arith}
 use lib.Dec.{ltb, eqb}
-use lib.ListN.{length, getD, take, drop, length-append, length-take, length-drop}
+use lib.ListN.{length, getD, take, drop, length-append}
 use lib.Seq.{take-at, take-all, take-suc, drop-drop, length-take-le}
 use borrow.Author.Tests.{eqb-true, ltb-true, lt-ltb}
 use Rattle.lists.specs.Searches.{same}
@@ -18,7 +18,7 @@ use Rattle.notification.specs.Forms.{sixBytes, categoryText}
 use Rattle.notification.specs.Writing.{keyText, nameOf, headerOf, formed}
 use Rattle.notification.specs.Reading.{dayNumber, keyIn, nameKey, headerKey, validKey, isName, isHeader}
 use Rattle.notification.specs.declared.Key.{Key}
-use Rattle.notification.proofs.Lengths.{date-length, formed-parts, name-between}
+use Rattle.notification.proofs.Lengths.{date-length, formed-parts}
 use Rattle.notification.proofs.Stored.{filled-all, filled-length, six-five}
 
 -- ---- a category's six bytes

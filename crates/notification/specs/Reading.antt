@@ -1,7 +1,7 @@
 -- How a file is read: the table "Refusals that come from the input" of document 01, row by row.
-use mathlib.Core.Bool.{Bool, true, false, cond, not, _&&_, _||_}
-use mathlib.Core.List.{List, [], _∷_, _++_, map}
-use Prim.Native.Nat.{ℕ, zero, suc, _+_, _-_, _*_, _/_, _%_}
+use mathlib.Core.Bool.{Bool, true, false, cond, not, _&&_}
+use mathlib.Core.List.{List, [], _∷_}
+use Prim.Native.Nat.{ℕ, suc, _+_, _-_, _*_}
 use lib.Dec.{leb, ltb, eqb}
 use lib.ListN.{length, getD, take, drop, replicate}
 use Rattle.lists.specs.Searches.{same, firstFrom}
@@ -14,9 +14,8 @@ use Rattle.refusals.specs.Tests.{Test, input, firstMet, decide}
 use Rattle.refusals.specs.declared.Refusal.{Refusal}
 use Rattle.refusals.specs.declared.Refusal.the-variants.{Input}
 use Rattle.refusals.specs.declared.InputRefusal.the-variants.{Name, Body, Header, Differs, Lines, Labels, Power, Zeros}
-use Rattle.refusals.specs.declared.Verdict.{Verdict}
 use Rattle.refusals.specs.declared.Verdict.the-variants.{Pass, No}
-use Rattle.notification.specs.Forms.{isCode, isCategory, sixBytes, categoryText, powerEnd, digits, inPlaces, places, allZero}
+use Rattle.notification.specs.Forms.{sixBytes, powerEnd, inPlaces, places, allZero}
 use Rattle.notification.specs.Writing.{nameOf, headerOf, labelsText, powerText, formed}
 use Rattle.notification.specs.declared.Key.{Key}
 use Rattle.notification.specs.declared.Notification.{Notification}

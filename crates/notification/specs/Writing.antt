@@ -1,17 +1,16 @@
 -- Name and body of a notification as they are written (document 01, "The notification file").
 use mathlib.Core.Path.{_≡_}
-use mathlib.Core.Bool.{Bool, true, false, cond, not, _&&_, _||_}
+use mathlib.Core.Bool.{Bool, not, _&&_, _||_}
 use mathlib.Core.List.{List, [], _∷_, _++_}
-use Prim.Native.Nat.{ℕ, zero, suc, _+_, _-_, _*_, _/_, _%_}
-use lib.Dec.{leb, ltb, eqb}
-use lib.ListN.{length, getD, take, drop}
+use Prim.Native.Nat.{ℕ, suc, _+_, _-_}
+use lib.Dec.{ltb, eqb}
+use lib.ListN.{length, take, drop}
 use Rattle.lists.specs.Searches.{every}
 use Rattle.calendar.specs.Dates.{dayCount}
 use Rattle.calendar.specs.Texts.{textOf}
 use Rattle.calendar.specs.Steps.{stepsOf}
 use Rattle.calendar.specs.Labels.{labelOf}
 use Rattle.refusals.specs.Tests.{Test, input, state, firstMet, decide}
-use Rattle.refusals.specs.declared.Refusal.{Refusal}
 use Rattle.refusals.specs.declared.InputRefusal.the-variants.{Form, Range, Zeros}
 use Rattle.refusals.specs.declared.StateRefusal.the-variants.{Full}
 use Rattle.refusals.specs.declared.Verdict.{Verdict}

@@ -13,7 +13,6 @@ use borrow.Author.Tests.{eqb-true}
 use Rattle.lists.proofs.Tests.{by-test}
 use Rattle.calendar.specs.declared.clock.Clock.{Clock}
 use Rattle.ledger.specs.Ledger.{Rec}
-use Rattle.calendar.specs.Clocks.{replacesWhole}
 use Rattle.ledger.specs.Filing.{changed}
 use Rattle.tables.specs.Tables.{Columns, keyFrom, recOf}
 use Rattle.tables.specs.Passing.{isUnder}

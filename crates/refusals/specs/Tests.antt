@@ -1,7 +1,6 @@
 -- A call's tests in the order of document 01 ("Order: .."), each with the refusal that it meets.
 use mathlib.Core.Bool.{Bool, cond}
 use mathlib.Core.List.{List, [], _∷_}
-use Prim.Native.Nat.{ℕ}
 use Rattle.refusals.specs.declared.InputRefusal.{InputRefusal}
 use Rattle.refusals.specs.declared.StateRefusal.{StateRefusal}
 use Rattle.refusals.specs.declared.Refusal.{Refusal}

@@ -6,12 +6,11 @@ use mathlib.Core.List.{List, []}
 use Prim.Native.Nat.{ℕ, _+_, _<_}
 use native.Mathlib.Omega.{arith}
 use native.Mathlib.Decide.{ℕ-discrete}
-use lib.ListN.{length, getD, set, length-set}
+use lib.ListN.{length, getD, length-set}
 use lib.Seq.{getD-set-same, getD-set-other}
 use Rattle.calendar.specs.Steps.{stepsOf}
 use Rattle.calendar.specs.Clocks.{firstCounted}
 use Rattle.refusals.specs.Tests.{firstMet}
-use Rattle.refusals.specs.declared.Refusal.{Refusal}
 use Rattle.refusals.specs.declared.Verdict.{Verdict}
 use Rattle.refusals.specs.declared.Verdict.the-variants.{Pass, No}
 use Rattle.notification.specs.declared.Notification.{Notification}
@@ -26,7 +25,7 @@ use Rattle.recording.specs.Recording.{pairsBelow}
 use Rattle.recording.proofs.Puts.{put-length}
 use Rattle.recording.proofs.AllChanged.{Made, all-made}
 use Rattle.register.specs.View.{Register, lent, held}
-use Rattle.register.specs.Written.{withRecords, does, doesNote, seen}
+use Rattle.register.specs.Written.{withRecords, does, seen}
 use Rattle.register.specs.Judging.{keyAt, Placed, Fileable}
 use Rattle.register.specs.declared.Head.{Head}
 use Rattle.register.specs.declared.verdicts.Places.{Places}

@@ -10,16 +10,15 @@ use Rattle.notification.specs.declared.Notification.{Notification}
 use Rattle.notification.specs.declared.Reading.{Reading}
 use Rattle.notification.specs.Reading.{readFile}
 use Rattle.ledger.specs.Call.{Form, csv, readForm, file}
-use Rattle.ledger.specs.Filing.{keyOf, filingTests, placeTests}
-use Rattle.ledger.specs.Calls.{verdictOf, refusedBy, stepNote, step}
-use Rattle.ledger.specs.declared.Answer.{Answer}
+use Rattle.ledger.specs.Filing.{filingTests, placeTests}
+use Rattle.ledger.specs.Calls.{verdictOf, refusedBy, stepNote}
 use Rattle.ledger.specs.declared.Answer.the-variants.{Refused}
 use Rattle.ledger.specs.declared.Entry.{Entry}
 use Rattle.ledger.proofs.Steps.{step-file}
 use Rattle.register.specs.declared.verdicts.Places.{Places}
 use Rattle.register.specs.View.{Register, held}
 use Rattle.register.specs.Judging.{keyAt, Placed, filesAt}
-use Rattle.register.specs.Written.{Done, notePut, writes, leaves, does, doesNote, seen}
+use Rattle.register.specs.Written.{Done, writes, leaves, does, doesNote, seen}
 
 -- ---- a notification, by its places
 

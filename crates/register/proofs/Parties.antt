@@ -1,21 +1,18 @@
 -- Who files, for whom, in which category: how many are enrolled, and the tests 20 to 25 by these numbers.
 use mathlib.Core.Path.{_≡_, refl, sym, _∙_}
-use mathlib.Core.Bool.{Bool, cond, not, _&&_, _||_}
+use mathlib.Core.Bool.{Bool, _&&_}
 use mathlib.Core.List.{List, [], _∷_}
 use Prim.Native.Nat.{ℕ, zero, suc, _<_, min}
 use native.Mathlib.Omega.{arith}
-use lib.Dec.{eqb, ltb, leb}
+use lib.Dec.{leb}
 use lib.ListN.{length, getD, take, length-map}
 use lib.Seq.{length-take-le, getD-take}
 use mir.Val.{Val}
 use denote.Laws.{Is}
-use Rattle.refusals.specs.Tests.{firstMet, state}
-use Rattle.refusals.specs.declared.Verdict.the-variants.{Pass, No}
-use Rattle.refusals.specs.declared.StateRefusal.the-variants.{CederUnknown, AcquirerUnknown, ActorUnknown, CategoryUnknown, NotParty, OneActor}
 use Rattle.notification.specs.Forms.{categoryText}
 use Rattle.notification.specs.declared.Notification.{Notification}
 use Rattle.notification.proofs.Notification as notification
-use Rattle.ledger.specs.Ledger.{Key, actorAt, categoryAt}
+use Rattle.ledger.specs.Ledger.{actorAt, categoryAt}
 use Rattle.ledger.specs.Filing.{keyOf, inContract, nobody}
 use Rattle.ledger.specs.declared.Actor.{Actor}
 use Rattle.tables.specs.Tables.{Columns, LoadColumns, actorsIn, categoriesIn}

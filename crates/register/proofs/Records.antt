@@ -2,7 +2,7 @@
 use mathlib.Core.Path.{_≡_, sym, subst, _∙_, ap, ap₂}
 use mathlib.Core.Bool.{Bool}
 use mathlib.Core.List.{List, [], _∷_, map}
-use Prim.Native.Nat.{ℕ, suc, _+_, _<_, _≤_, _/_, min}
+use Prim.Native.Nat.{ℕ, _+_, _<_, _≤_, _/_, min}
 use native.Mathlib.Omega.{arith}
 use lib.ListN.{length, getD, set}
 use Rattle.calendar.specs.Steps.{stepsOf}
@@ -12,7 +12,7 @@ use Rattle.ledger.specs.Ledger.{Key, Rec}
 use Rattle.ledger.specs.Filing.{pairs, changed, statusBy, nextId, born, filed}
 use Rattle.ledger.specs.Calls.{Outcome, fileAt}
 use Rattle.ledger.specs.declared.Answer.the-variants.{Filed}
-use Rattle.tables.specs.Tables.{Columns, LoadColumns, columns, keyFrom, keyNumber, recOf, recordIn, recordsIn, downFrom, actorsIn, categoriesIn, loadsIn}
+use Rattle.tables.specs.Tables.{Columns, LoadColumns, columns, keyFrom, keyNumber, recOf, recordIn, recordsIn, actorsIn, categoriesIn, loadsIn}
 use Rattle.tables.specs.Passing.{isUnder, PlacesOf}
 use Rattle.tables.specs.More.{putTo, withUntil}
 use Rattle.tables.proofs.Keys.{key-unpacked}

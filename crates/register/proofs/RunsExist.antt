@@ -1,10 +1,9 @@
 -- EVERY LIST OF CALLS HAS A RUN: from every register whose arrays have their places there is, call after call, an answer and a register that
 -- meet what the called function ensures. So what is shown of every run is shown of every list of calls, and no contract asks for what
 -- can't be.
-use mathlib.Core.Path.{_≡_, refl}
+use mathlib.Core.Path.{refl}
 use mathlib.Core.List.{List, [], _∷_}
-use Prim.Native.Nat.{ℕ, _<_}
-use lib.ListN.{length, getD}
+use Prim.Native.Nat.{ℕ}
 use Rattle.ledger.specs.Call.{csv, Call, enrolActor, enrolCategory, load, file, advance}
 use Rattle.ledger.specs.declared.Answer.{Answer}
 use Rattle.ledger.specs.declared.Engaged.{Engaged}

@@ -1,14 +1,13 @@
 -- What the record call shows: the codes and the category of a record, the record of an id, and what refuses to show it.
 use mathlib.Core.Path.{_≡_, refl, sym, ap, _∙_}
 use mathlib.Core.Bool.{true, false, cond, not, true≢false}
-use mathlib.Core.List.{List, [], _∷_, _++_, map}
-use Prim.Native.Nat.{ℕ, _+_, _-_, _/_, _%_, _≤_, _<_, min}
+use mathlib.Core.List.{List, [], _∷_, map}
+use Prim.Native.Nat.{ℕ, _-_, _/_, _%_, _≤_, _<_, min}
 use native.Mathlib.Omega.{arith}
 use lib.Dec.{ltb, eqb}
-use lib.ListN.{length, getD, take, replicate, length-append, List·getD-eq-default, List·getD-map}
-use lib.Seq.{take-all, take-suc, take-append-le, length-take-le, getD-take}
-use borrow.Author.Tests.{lt-ltb, le-ltb, eqb-true}
-use Rattle.lists.proofs.Tests.{by-test}
+use lib.ListN.{length, getD, take, replicate, List·getD-eq-default, List·getD-map}
+use lib.Seq.{getD-take}
+use borrow.Author.Tests.{lt-ltb, le-ltb}
 use Rattle.calendar.specs.Steps.{stepsOf}
 use Rattle.refusals.specs.Tests.{Test, state, firstMet}
 use Rattle.refusals.specs.declared.Refusal.{Refusal}

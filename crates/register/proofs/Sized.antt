@@ -2,7 +2,7 @@
 -- what the called function ensures.
 use denote.Ref.{RefT}
 use mathlib.Core.Path.{_≡_}
-use mathlib.Core.List.{List, []}
+use mathlib.Core.List.{[]}
 use Prim.Native.Nat.{ℕ, _<_}
 use lib.ListN.{length, getD}
 use Rattle.ledger.specs.Call.{Call}

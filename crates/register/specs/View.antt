@@ -1,5 +1,4 @@
 -- A REGISTER, AND THE LEDGER THAT IT HOLDS with its head and its lent columns.
-use Prim.Native.Nat.{ℕ}
 use Rattle.ledger.specs.Ledger.{Ledger}
 use Rattle.tables.specs.Tables.{Columns, LoadColumns, actorsIn, categoriesIn, loadsIn, recordsIn}
 use Rattle.register.specs.declared.Head.{Head}

@@ -1,7 +1,5 @@
 // Filing: a form is read; what was read is judged and recorded.
 ghost use mathlib.Core.Path.{_≡_};
-ghost use mathlib.Core.List.{List};
-ghost use Prim.Native.Nat.{ℕ};
 ghost use Rattle.ledger.specs.Call.{csv, file};
 ghost use Rattle.ledger.specs.Filing.{statusBy};
 ghost use Rattle.tables.specs.Tables.{LoadColumns, columns, loadColumns};

@@ -1,14 +1,14 @@
 -- The pieces of an answer's line, put one after another.
 use mathlib.Core.Path.{_≡_, refl, sym, ap, _∙_}
-use mathlib.Core.Bool.{Bool, true, false, cond, _&&_}
+use mathlib.Core.Bool.{Bool, true, false, _&&_}
 use mathlib.Core.List.{List, [], _∷_, _++_, append-assoc}
-use Prim.Native.Nat.{ℕ, zero, suc, _+_, _*_, _%_, _<_, _≤_}
+use Prim.Native.Nat.{ℕ, suc, _+_, _*_, _%_, _<_, _≤_}
 use native.Mathlib.Nat.{add-zero}
 use native.Mathlib.Numerals.{add-one}
 use native.Mathlib.Omega.{arith}
 use lib.Dec.{eqb, ltb}
-use lib.ListN.{length, getD, set, take, length-append, length-set}
-use lib.Seq.{sets, take-suc, take-all, length-take-le}
+use lib.ListN.{length, getD, set, take}
+use lib.Seq.{take-suc, take-all, length-take-le}
 use borrow.Author.Tests.{ltb-true, ltb-false, eq-eqb, ne-eqb, le-leb, lt-leb}
 use Rattle.lists.proofs.Tests.{by-test, and-left, and-right, right-false}
 use Rattle.writer.specs.Placing.{Placed}
@@ -16,7 +16,7 @@ use Rattle.writer.proofs.Placed.{placed-none, placed-length, placed-end, placed
 use Rattle.answers.specs.declared.Said.{Said}
 use Rattle.script.specs.Numbers.{decimal}
 use Rattle.script.specs.Lines.{comma}
-use Rattle.script.specs.Answers.{valueText, valuesText, okText, noText, saidText, answerLine, lineRoom, answerPut, answerEnd}
+use Rattle.script.specs.Answers.{valueText, valuesText, saidText, answerLine, lineRoom, answerPut, answerEnd}
 use Rattle.script.proofs.Decimals.{wordEnd, decimal-few, decimal-most}
 
 pub word-placed : (l : List ℕ) (at a b : ℕ) → Placed l at (comma ∷ a ∷ b ∷ []) (set (set (set l at comma) (at + 1) a) (at + 2) b) (at + 3)

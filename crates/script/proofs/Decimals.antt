@@ -1,15 +1,12 @@
 -- The digits of a number: those of its tenth, and its last one. They are put from the last to the first.
 use mathlib.Core.Path.{_≡_, refl, sym, ap, _∙_}
-use mathlib.Core.Bool.{Bool, true, false, cond}
 use mathlib.Core.List.{List, [], _∷_, _++_}
-use Prim.Native.Nat.{ℕ, zero, suc, _+_, _-_, _*_, _/_, _%_, _^_, _<_, _≤_}
-use native.Mathlib.Nat.{add-zero}
-use native.Mathlib.Numerals.{add-one}
+use Prim.Native.Nat.{ℕ, zero, suc, _+_, _-_, _/_, _%_, _^_, _<_, _≤_}
 use native.Mathlib.Omega.{arith}
 use lib.Dec.{ltb}
 use lib.ListN.{length, getD, set, take, drop, length-append, length-set}
-use lib.Seq.{sets, set-comm, drop-cons, getD-take, getD-at, take-take, take-at, take-all, drop-length, length-take-le, take-length}
-use borrow.Author.Tests.{ltb-true, ltb-false, lt-ltb, le-ltb}
+use lib.Seq.{sets, set-comm, drop-cons, getD-take, getD-at, take-take, take-at, drop-length, take-length}
+use borrow.Author.Tests.{lt-ltb, le-ltb}
 use Rattle.lists.proofs.Tests.{by-test}
 use Rattle.calendar.specs.Texts.{digitOf}
 use Rattle.writer.specs.Placing.{Placed}

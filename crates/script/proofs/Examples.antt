@@ -14,7 +14,7 @@ use Rattle.ledger.specs.declared.Answer.the-variants.{Moved, Held, Filed, Refus
 use Rattle.ledger.specs.declared.Engaged.the-variants.{Power}
 use Rattle.answers.specs.Values.{saidOf, saidEngaged, saidRefused}
 use Rattle.script.specs.Numbers.{isNumber, valueFrom, decimalIn}
-use Rattle.script.specs.Lines.{Asked, calls, fileOf, engagement, recordOf, unknown, fields, advanceLine, enrolLine, categoryLine, loadLine, fileLine, engagementLine, recordLine, byLetter, lineOf}
+use Rattle.script.specs.Lines.{calls, fileOf, engagement, recordOf, unknown, fields, advanceLine, enrolLine, categoryLine, loadLine, fileLine, engagementLine, recordLine, byLetter, lineOf}
 use Rattle.script.specs.Answers.{valueText, valuesText, saidText, answerLine}
 
 -- codes 17X100A100R000.. by their last two bytes, and the category 13120

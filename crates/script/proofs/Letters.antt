@@ -2,13 +2,13 @@
 use mathlib.Core.Path.{_≡_, refl, sym, ap, ap₂, _∙_}
 use mathlib.Core.Bool.{Bool, true, false, cond}
 use mathlib.Core.List.{List, [], _∷_}
-use Prim.Native.Nat.{ℕ, zero, suc, _+_, _<_, _≤_}
+use Prim.Native.Nat.{ℕ, _<_, _≤_}
 use native.Mathlib.Omega.{arith}
 use lib.Dec.{eqb, leb}
-use lib.ListN.{length, getD, drop}
-use borrow.Author.Tests.{eqb-true, eqb-false, eq-eqb, ne-eqb, le-leb, lt-leb}
+use lib.ListN.{length, getD}
+use borrow.Author.Tests.{eqb-true, eq-eqb, ne-eqb, le-leb, lt-leb}
 use Rattle.notification.specs.Reading.{onto}
-use Rattle.script.specs.Lines.{Asked, unknown, known, field, lineMost, comma, fields, letterOf, byLetter, lineOf, advanceLine, enrolLine, categoryLine, loadLine, fileLine, engagementLine, recordLine}
+use Rattle.script.specs.Lines.{Asked, unknown, field, lineMost, comma, fields, letterOf, byLetter, lineOf, advanceLine, enrolLine, categoryLine, loadLine, fileLine, engagementLine, recordLine}
 use Rattle.script.specs.Fields.{fieldsFrom}
 use Rattle.script.specs.Spans.{start, endOf, readAs, lineRead}
 use Rattle.script.specs.Walking.{lettered}

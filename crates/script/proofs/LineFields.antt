@@ -13,7 +13,7 @@ use Rattle.lists.specs.Searches.{every, byteFrom}
 use Rattle.lists.proofs.Tests.{by-test, and-left, and-right}
 use Rattle.script.specs.Numbers.{isNumber, valueOf}
 use Rattle.script.specs.Lines.{comma}
-use Rattle.script.specs.Fields.{fieldsFrom, numberIn}
+use Rattle.script.specs.Fields.{fieldsFrom}
 use Rattle.script.specs.Spans.{cut, start, powerPlaces, powersOf, endOf}
 use Rattle.script.specs.declared.reading.Line.{Line}
 use Rattle.script.proofs.Parting.{from-inside, from-past, fields-parted, field-ends}

@@ -1,9 +1,9 @@
 -- The kinds of lines but E and L, field by field: a line whose fields are too few or too many is unknown, and one whose fields are as many as its
 -- kind has says what their tests and values say.
-use mathlib.Core.Path.{_≡_, refl, sym, ap, ap₂, _∙_}
-use mathlib.Core.Bool.{Bool, true, false, _&&_}
+use mathlib.Core.Path.{_≡_, refl, sym, ap, _∙_}
+use mathlib.Core.Bool.{true, false, _&&_}
 use mathlib.Core.List.{List, [], _∷_}
-use Prim.Native.Nat.{ℕ, suc, _+_, _-_, _<_, _≤_}
+use Prim.Native.Nat.{ℕ, _+_, _-_, _<_, _≤_}
 use native.Mathlib.Omega.{arith}
 use lib.Dec.{ltb}
 use lib.ListN.{length, take, drop}
@@ -13,12 +13,11 @@ use Rattle.lists.proofs.Tests.{by-test, and-right}
 use Rattle.calendar.specs.Dates.{dayCount}
 use Rattle.ledger.specs.Call as Call
 use Rattle.script.specs.Numbers.{numberEnd, isNumber, valueOf, dayIn, isDay}
-use Rattle.script.specs.Lines.{Asked, calls, fileOf, recordOf, unknown, comma, fields, advanceLine, enrolLine, categoryLine, fileLine, recordLine}
+use Rattle.script.specs.Lines.{Asked, calls, fileOf, recordOf, unknown, comma, advanceLine, enrolLine, categoryLine, fileLine, recordLine}
 use Rattle.script.specs.Fields.{fieldsFrom, numberIn}
 use Rattle.script.specs.Spans.{cut, start, endOf, plain, readAs}
 use Rattle.script.specs.Walking.{FieldEnd, lettered}
 use Rattle.script.specs.declared.reading.CallKind.the-variants.{Advance, EnrolActor, EnrolCategory}
-use Rattle.script.specs.declared.reading.Kind.{Kind}
 use Rattle.script.specs.declared.reading.Kind.the-variants.{Calls, Files, RecordOf, Unknown}
 use Rattle.script.specs.declared.reading.Line.{Line}
 use Rattle.script.proofs.Parting.{restAt, from-inside, from-past, fields-parted, field-ends}

@@ -6,14 +6,14 @@ use Prim.Native.Nat.{ℕ, suc, _+_, _-_, _*_, _<_, _≤_}
 use native.Mathlib.Nat.{add-zero}
 use native.Mathlib.Omega.{arith}
 use lib.Dec.{ltb}
-use lib.ListN.{length, getD, take, drop, length-drop}
+use lib.ListN.{length, getD, drop, length-drop}
 use lib.Seq.{take-suc, getD-take, getD-drop, length-take-le}
 use borrow.Author.Tests.{leb-true, le-leb, ne-eqb}
 use Rattle.lists.specs.Searches.{every, some, isByte}
 use Rattle.lists.proofs.Tests.{and-left, and-right}
 use Rattle.lists.proofs.ByteSearch.{byte-here, byte-nowhere}
 use Rattle.calendar.specs.Texts.{digit}
-use Rattle.script.specs.Numbers.{numberEnd, isNumber, valueFrom, valueOf}
+use Rattle.script.specs.Numbers.{numberEnd, isNumber, valueFrom}
 use Rattle.script.specs.Lines.{comma}
 use Rattle.script.specs.Fields.{numberIn}
 use Rattle.script.specs.Spans.{cut}

@@ -8,7 +8,6 @@ use Rattle.notification.specs.Forms.{categoryText}
 use Rattle.ledger.specs.declared.Actor.{Actor}
 use Rattle.ledger.specs.Ledger.{Load, Key, Rec, actorPlaces, categoryPlaces, loadPlaces, recordPlaces}
 use Rattle.tables.specs.declared.actors.Actors.{Actors}
-use Rattle.tables.specs.declared.categories.Category.{Category}
 use Rattle.tables.specs.declared.categories.Categories.{Categories}
 
 -- what stands at the numbers below n, the last first

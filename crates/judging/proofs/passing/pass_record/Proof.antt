@@ -8,6 +8,10 @@ use borrow.Author.Needs.{needs}
 use Rattle.judging.proofs.passing.pass_record.Statement.{statement}
 use Rattle.judging.proofs.passing.pass_record.Tie as tie
 
+-- back from a context to an earlier one
+abbrev start : tie.After-apply-record → tie.Start
+start c = c .before .before .before .before .before .before .before .before
+
 mul-key : tie.Need-mul-key
 mul-key c = search needs
 
@@ -52,7 +56,7 @@ apply-record-requires-2 c κs = search needs
 
 returns-2 : tie.Need-returns-2
 returns-2 c =
-    let b = c .before .before .before .before .before .before .before .before .before .before in
+    let b = start (c .before .before) in
     let a = b .args in
     λ ids.
     let cols = columns (a .statuses .now) ids (a .keys .now) (a .marks .now) (a .rows .now) in

@@ -1,8 +1,7 @@
 -- As long as the loop runs, the byte that is looked for from the place on is the one looked for at first.
 use borrow.Author.Needs.{needs}
-use mathlib.Core.Path.{_≡_, refl, _∙_}
+use mathlib.Core.Path.{_≡_, _∙_}
 use Prim.Native.Nat.{_-_}
-use native.Mathlib.Omega.{arith}
 use lib.ListN.{length}
 use Rattle.lists.specs.Searches.{byteFrom}
 use Rattle.lists.proofs.ByteSearch.{byte-here, byte-past, byte-nowhere}

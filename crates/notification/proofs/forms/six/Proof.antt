@@ -1,7 +1,5 @@
 -- `forms::six` meets its contract: the bytes one by one, and 0 past them.
 use borrow.Author.Needs.{needs}
-use mathlib.Core.Path.{_∙_}
-use mathlib.Core.List.{List, [], _∷_}
 use Rattle.notification.proofs.Stored.{six-bytes}
 use Rattle.notification.proofs.forms.six.Statement.{statement}
 use Rattle.notification.proofs.forms.six.Tie as tie

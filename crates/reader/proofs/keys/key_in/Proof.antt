@@ -7,17 +7,28 @@ use Rattle.reader.proofs.KeyParts.{read-short, read-long, read-wrong, r
 use Rattle.reader.proofs.keys.key_in.Statement.{statement}
 use Rattle.reader.proofs.keys.key_in.Tie as tie
 
+-- back from a context to an earlier one
+abbrev after-shared-slice-known4 : tie.After-day-of → tie.After-shared-slice-known4
+after-shared-slice-known4 c = c .before .before .before .before .before .before
+
+abbrev start : tie.After-shared-slice-known4 → tie.Start
+start c = c .before .before .before .before .before .before .before .before .before
+
 no-key-requires : tie.Need-no-key-requires
 no-key-requires c κs = search needs
 
 returns : tie.Need-returns
-returns c = c .no-key .ensures ∙ read-short (c .before .before .before .args .by) (c .before .before .before .args .s .now) (c .before .if1 .taken)
+returns c =
+    let at-start = c .before .before .before in
+    c .no-key .ensures ∙ read-short (at-start .args .by) (at-start .args .s .now) (c .before .if1 .taken)
 
 no-key-requires-2 : tie.Need-no-key-requires-2
 no-key-requires-2 c κs = search needs
 
 returns-2 : tie.Need-returns-2
-returns-2 c = c .no-key2 .ensures ∙ read-long (c .before .before .before .before .args .by) (c .before .before .before .before .args .s .now) (c .before .if2 .taken)
+returns-2 c =
+    let at-start = c .before .before .before .before in
+    c .no-key2 .ensures ∙ read-long (at-start .args .by) (at-start .args .s .now) (c .before .if2 .taken)
 
 sub-ceder : tie.Need-sub-ceder
 sub-ceder c = search needs
@@ -68,7 +79,9 @@ no-key-requires-3 : tie.Need-no-key-requires-3
 no-key-requires-3 c κs = search needs
 
 returns-3 : tie.Need-returns-3
-returns-3 c = c .no-key3 .ensures ∙ read-wrong (c .before .before .before .before .before .before .before .before .before .before .before .before .before .before .args .by) (c .before .before .before .before .before .before .before .before .before .before .before .before .before .before .args .s .now) _ _ _ (c .before .before .before .before .is-code .ensures) (c .before .before .before .is-code2 .ensures) (c .before .before .is-category .ensures ∙ ap isCategory (rest-all 43 (c .before .before .before .before .before .before .before .before .before .before .before .before .before .before .args .s .now))) (c .before .if3 .taken)
+returns-3 c =
+    let at-shared-slice-known4 = c .before .before .before .before .before in
+    c .no-key3 .ensures ∙ read-wrong (start at-shared-slice-known4 .args .by) (start at-shared-slice-known4 .args .s .now) _ _ _ (c .before .before .before .before .is-code .ensures) (c .before .before .before .is-code2 .ensures) (c .before .before .is-category .ensures ∙ ap isCategory (rest-all 43 (start at-shared-slice-known4 .args .s .now))) (c .before .if3 .taken)
 
 sub-day-of : tie.Need-sub-day-of
 sub-day-of c = search needs
@@ -102,11 +115,14 @@ no-key-requires-4 c κs = search needs
 
 returns-4 : tie.Need-returns-4
 returns-4 c =
-    read-key (c .before .before .before .before .before .before .before .before .before .before .before .before .before .before .before .before .before .before .before .before .before .args .by) (c .before .before .before .before .before .before .before .before .before .before .before .before .before .before .before .before .before .before .before .before .before .args .s .now) _ _ _ (c .before .before .before .before .before .before .before .before .before .before .before .is-code .ensures) (c .before .before .before .before .before .before .before .before .before .before .is-code2 .ensures) (c .before .before .before .before .before .before .before .before .before .is-category .ensures ∙ ap isCategory (rest-all 43 (c .before .before .before .before .before .before .before .before .before .before .before .before .before .before .before .before .before .before .before .before .before .args .s .now))) (c .before .before .before .before .before .before .before .before .before .before .before .before .before .before .before .before .before .before .before .if1 .left) (c .before .before .before .before .before .before .before .before .before .before .before .before .before .before .before .before .before .before .if2 .left) (c .before .before .before .before .before .before .before .before .if3 .left) _ (sym (c .before .before .before .before .before .before .day-of .ensures) ∙ c .before .before .before .before .day .given .1)
-    _ _ _ (c .before .before .sixteen .ensures) (c .before .sixteen2 .ensures) (c .six .ensures ∙ ap sixBytes (rest-all 43 (c .before .before .before .before .before .before .before .before .before .before .before .before .before .before .before .before .before .before .before .before .before .args .s .now)))
+    let at-day-of = c .before .before .before .before .before .before in
+    read-key (start (after-shared-slice-known4 at-day-of) .args .by) (start (after-shared-slice-known4 at-day-of) .args .s .now) _ _ _ (at-day-of .before .before .before .before .before .is-code .ensures) (at-day-of .before .before .before .before .is-code2 .ensures) (c .before .before .before .before .before .before .before .before .before .is-category .ensures ∙ ap isCategory (rest-all 43 (start (after-shared-slice-known4 at-day-of) .args .s .now))) (after-shared-slice-known4 at-day-of .before .before .before .before .before .before .before .if1 .left) (after-shared-slice-known4 at-day-of .before .before .before .before .before .before .if2 .left) (c .before .before .before .before .before .before .before .before .if3 .left) _ (sym (at-day-of .day-of .ensures) ∙ c .before .before .before .before .day .given .1)
+    _ _ _ (c .before .before .sixteen .ensures) (c .before .sixteen2 .ensures) (c .six .ensures ∙ ap sixBytes (rest-all 43 (start (after-shared-slice-known4 at-day-of) .args .s .now)))
 
 returns-5 : tie.Need-returns-5
-returns-5 c = c .no-key4 .ensures ∙ read-no-day (c .before .before .before .before .before .before .before .before .before .before .before .before .before .before .before .before .before .before .args .by) (c .before .before .before .before .before .before .before .before .before .before .before .before .before .before .before .before .before .before .args .s .now) _ _ _ (c .before .before .before .before .before .before .before .before .is-code .ensures) (c .before .before .before .before .before .before .before .is-code2 .ensures) (c .before .before .before .before .before .before .is-category .ensures ∙ ap isCategory (rest-all 43 (c .before .before .before .before .before .before .before .before .before .before .before .before .before .before .before .before .before .before .args .s .now))) (c .before .before .before .before .before .before .before .before .before .before .before .before .before .before .before .before .if1 .left) (c .before .before .before .before .before .before .before .before .before .before .before .before .before .before .before .if2 .left) (c .before .before .before .before .before .if3 .left) (sym (c .before .before .before .day-of .ensures) ∙ c .before .enum-told .given .1)
+returns-5 c =
+    let at-day-of = c .before .before .before in
+    c .no-key4 .ensures ∙ read-no-day (start (after-shared-slice-known4 at-day-of) .args .by) (start (after-shared-slice-known4 at-day-of) .args .s .now) _ _ _ (c .before .before .before .before .before .before .before .before .is-code .ensures) (c .before .before .before .before .before .before .before .is-code2 .ensures) (c .before .before .before .before .before .before .is-category .ensures ∙ ap isCategory (rest-all 43 (start (after-shared-slice-known4 at-day-of) .args .s .now))) (after-shared-slice-known4 at-day-of .before .before .before .before .before .before .before .if1 .left) (after-shared-slice-known4 at-day-of .before .before .before .before .before .before .if2 .left) (c .before .before .before .before .before .if3 .left) (sym (at-day-of .day-of .ensures) ∙ c .before .enum-told .given .1)
 
 pub key-in-spec : {M : Type 1} → statement M
 key-in-spec =

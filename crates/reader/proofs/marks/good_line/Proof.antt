@@ -10,6 +10,19 @@ use Rattle.reader.proofs.Marking.{line-at}
 use Rattle.reader.proofs.marks.good_line.Statement.{statement}
 use Rattle.reader.proofs.marks.good_line.Tie as tie
 
+-- back from a context to an earlier one
+abbrev else2 : tie.After-power-of → tie.Else2
+else2 c = c .before .before .before .before .before .before
+
+abbrev after-twelve : tie.Else2 → tie.After-twelve
+after-twelve c = c .before
+
+abbrev else1 : tie.After-twelve → tie.Else1
+else1 c = c .before
+
+abbrev start : tie.Else1 → tie.Start
+start c = c .before .before .before
+
 add-if1 : tie.Need-add-if1
 add-if1 c = search needs
 
@@ -65,7 +78,9 @@ add-if3 : tie.Need-add-if3
 add-if3 c = omega (arith, power-few _ _ _ _ _ _ _ (sym (c .before .before .before .power-of .ensures) ∙ c .before .power .given .1))
 
 shared-slice-read-if3 : tie.Need-shared-slice-read-if3
-shared-slice-read-if3 c = omega (arith, power-few _ _ _ _ _ _ _ (sym (c .before .before .before .before .power-of .ensures) ∙ c .before .before .power .given .1), c .before .before .before .before .before .before .before .before .before .before .before .before .if1 .left)
+shared-slice-read-if3 c =
+    let at-power-of = c .before .before .before .before in
+    omega (arith, power-few _ _ _ _ _ _ _ (sym (at-power-of .power-of .ensures) ∙ c .before .before .power .given .1), else1 (after-twelve (else2 at-power-of)) .if1 .left)
 
 add-t31 : tie.Need-add-t31
 add-t31 c = omega (arith, power-few _ _ _ _ _ _ _ (sym (c .before .before .before .before .before .power-of .ensures) ∙ c .before .before .before .power .given .1))
@@ -75,9 +90,10 @@ enum-told c = search needs
 
 returns-3 : tie.Need-returns-3
 returns-3 c =
-    line-at (c .before .before .before .before .before .before .before .before .before .before .before .before .before .before .before .before .args .s .now) (c .before .before .before .before .before .before .before .before .before .before .before .before .before .before .before .before .args .a) (sixAt (c .before .before .before .before .before .before .before .before .before .before .before .before .before .before .before .before .args .t .now) (c .before .before .before .before .before .before .before .before .before .before .before .before .before .before .before .before .args .i)) (sixAt (c .before .before .before .before .before .before .before .before .before .before .before .before .before .before .before .before .args .t .now) (c .before .before .before .before .before .before .before .before .before .before .before .before .before .before .before .before .args .i + 6)) _ _ _ (c .before .before .before .before .before .before .before .before .before .before .before .before .twelve .ensures .1)
-    (c .before .before .before .before .before .before .before .before .before .before .before .before .twelve .ensures .0 (not-false (c .before .before .before .before .before .before .before .before .before .before .before .before .twelve .result) (c .before .before .before .before .before .before .before .before .before .before .before .if2 .left)))
-    (sym (c .before .before .before .power .given .1) ∙ c .before .before .before .before .before .power-of .ensures) refl (c .if3 .taken)
+    let at-power-of = c .before .before .before .before .before in
+    line-at (start (else1 (after-twelve (else2 at-power-of))) .args .s .now) (start (else1 (after-twelve (else2 at-power-of))) .args .a) (sixAt (start (else1 (after-twelve (else2 at-power-of))) .args .t .now) (start (else1 (after-twelve (else2 at-power-of))) .args .i)) (sixAt (start (else1 (after-twelve (else2 at-power-of))) .args .t .now) (start (else1 (after-twelve (else2 at-power-of))) .args .i + 6)) _ _ _ (after-twelve (else2 at-power-of) .twelve .ensures .1)
+    (after-twelve (else2 at-power-of) .twelve .ensures .0 (not-false (after-twelve (else2 at-power-of) .twelve .result) (else2 at-power-of .if2 .left)))
+    (sym (c .before .before .before .power .given .1) ∙ at-power-of .power-of .ensures) refl (c .if3 .taken)
 
 returns-4 : tie.Need-returns-4
 returns-4 c = search needs

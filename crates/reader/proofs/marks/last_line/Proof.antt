@@ -10,6 +10,10 @@ use Rattle.reader.proofs.Marking.{line-at}
 use Rattle.reader.proofs.marks.last_line.Statement.{statement}
 use Rattle.reader.proofs.marks.last_line.Tie as tie
 
+-- back from a context to an earlier one
+abbrev start : tie.After-power-at → tie.Start
+start c = c .before .before .before .before .before .before
+
 sub-if1 : tie.Need-sub-if1
 sub-if1 c = search needs
 
@@ -48,9 +52,11 @@ enum-told c = search needs
 
 returns-3 : tie.Need-returns-3
 returns-3 c =
-    line-at (c .before .before .before .before .before .before .before .before .before .before .before .args .s .now) (c .before .before .before .before .before .before .before .before .before .before .before .args .a) (sixAt (c .before .before .before .before .before .before .before .before .before .before .before .args .t .now) (c .before .before .before .before .before .before .before .before .before .before .before .args .i)) (sixAt (c .before .before .before .before .before .before .before .before .before .before .before .args .t .now) (c .before .before .before .before .before .before .before .before .before .before .before .args .i + 6)) _ _ _ (c .before .before .before .before .before .before .before .twelve .ensures .1)
-    (c .before .before .before .before .before .before .before .twelve .ensures .0 (not-false (c .before .before .before .before .before .before .before .twelve .result) (c .before .before .before .before .before .before .if2 .left)))
-    (sym (c .before .before .before .power .given .1) ∙ c .before .before .before .before .before .power-at .ensures) (c .before .byte-at .ensures) (c .if3 .taken)
+    let at-power-at = c .before .before .before .before .before in
+    let at-twelve = c .before .before .before .before .before .before .before in
+    line-at (start at-power-at .args .s .now) (start at-power-at .args .a) (sixAt (start at-power-at .args .t .now) (start at-power-at .args .i)) (sixAt (start at-power-at .args .t .now) (start at-power-at .args .i + 6)) _ _ _ (at-twelve .twelve .ensures .1)
+    (at-twelve .twelve .ensures .0 (not-false (at-twelve .twelve .result) (c .before .before .before .before .before .before .if2 .left)))
+    (sym (c .before .before .before .power .given .1) ∙ at-power-at .power-at .ensures) (c .before .byte-at .ensures) (c .if3 .taken)
 
 returns-4 : tie.Need-returns-4
 returns-4 c = search needs

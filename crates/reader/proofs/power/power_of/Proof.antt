@@ -4,6 +4,16 @@ use Rattle.reader.proofs.Figures.{no-first, one-digit, no-second, needl
 use Rattle.reader.proofs.power.power_of.Statement.{statement}
 use Rattle.reader.proofs.power.power_of.Tie as tie
 
+-- back from a context to an earlier one
+abbrev else2 : tie.After-digit-value4 → tie.Else2
+else2 c = c .before .before .before .before .before .before .before .before
+
+abbrev else1 : tie.Else2 → tie.Else1
+else1 c = c .before
+
+abbrev after-digit-value : tie.Else1 → tie.After-digit-value
+after-digit-value c = c .before
+
 digit-value-requires : tie.Need-digit-value-requires
 digit-value-requires c κs = search needs
 
@@ -23,7 +33,9 @@ returns-3 : tie.Need-returns-3
 returns-3 c = no-second _ _ _ _ _ _ _ (c .before .before .before .before .digit-value .ensures) (c .before .before .before .if1 .left) (c .before .before .if2 .left) (c .before .digit-value2 .ensures) (c .if3 .taken)
 
 returns-4 : tie.Need-returns-4
-returns-4 c = needless _ _ _ _ _ _ _ (c .before .before .before .before .before .digit-value .ensures) (c .before .before .before .before .if1 .left) (c .before .before .before .if2 .left) (c .before .before .digit-value2 .ensures) (c .before .if3 .left) (c .if4 .taken)
+returns-4 c =
+    let at-else2 = c .before .before .before in
+    needless _ _ _ _ _ _ _ (after-digit-value (else1 at-else2) .digit-value .ensures) (c .before .before .before .before .if1 .left) (at-else2 .if2 .left) (c .before .before .digit-value2 .ensures) (c .before .if3 .left) (c .if4 .taken)
 
 mul-two : tie.Need-mul-two
 mul-two c = search needs
@@ -35,13 +47,17 @@ cast-t15 : tie.Need-cast-t15
 cast-t15 c = search needs
 
 returns-5 : tie.Need-returns-5
-returns-5 c = two-digits _ _ _ _ _ _ _ (c .before .before .before .before .before .before .digit-value .ensures) (c .before .before .before .before .before .if1 .left) (c .before .before .before .before .if2 .left) (c .before .before .before .digit-value2 .ensures) (c .before .before .if3 .left) (c .before .if4 .left) (c .if5 .taken)
+returns-5 c =
+    let at-else2 = c .before .before .before .before in
+    two-digits _ _ _ _ _ _ _ (after-digit-value (else1 at-else2) .digit-value .ensures) (else1 at-else2 .if1 .left) (at-else2 .if2 .left) (c .before .before .before .digit-value2 .ensures) (c .before .before .if3 .left) (c .before .if4 .left) (c .if5 .taken)
 
 digit-value-requires-3 : tie.Need-digit-value-requires-3
 digit-value-requires-3 c κs = search needs
 
 returns-6 : tie.Need-returns-6
-returns-6 c = no-third _ _ _ _ _ _ _ (c .before .before .before .before .before .before .before .before .digit-value .ensures) (c .before .before .before .before .before .before .before .if1 .left) (c .before .before .before .before .before .before .if2 .left) (c .before .before .before .before .before .digit-value2 .ensures) (c .before .before .before .before .if3 .left) (c .before .before .before .if4 .left) (c .before .before .if5 .left) _ (c .before .digit-value3 .ensures) (c .if6 .taken)
+returns-6 c =
+    let at-else2 = c .before .before .before .before .before .before in
+    no-third _ _ _ _ _ _ _ (after-digit-value (else1 at-else2) .digit-value .ensures) (else1 at-else2 .if1 .left) (at-else2 .if2 .left) (c .before .before .before .before .before .digit-value2 .ensures) (c .before .before .before .before .if3 .left) (c .before .before .before .if4 .left) (c .before .before .if5 .left) _ (c .before .digit-value3 .ensures) (c .if6 .taken)
 
 mul-three : tie.Need-mul-three
 mul-three c = search needs
@@ -53,13 +69,15 @@ cast-t16 : tie.Need-cast-t16
 cast-t16 c = search needs
 
 returns-7 : tie.Need-returns-7
-returns-7 c = three-digits _ _ _ _ _ _ _ (c .before .before .before .before .before .before .before .before .before .digit-value .ensures) (c .before .before .before .before .before .before .before .before .if1 .left) (c .before .before .before .before .before .before .before .if2 .left) (c .before .before .before .before .before .before .digit-value2 .ensures) (c .before .before .before .before .before .if3 .left) (c .before .before .before .before .if4 .left) (c .before .before .before .if5 .left) _ (c .before .before .digit-value3 .ensures) (c .before .if6 .left) (c .if7 .taken)
+returns-7 c =
+    let at-else2 = c .before .before .before .before .before .before .before in
+    three-digits _ _ _ _ _ _ _ (after-digit-value (else1 at-else2) .digit-value .ensures) (else1 at-else2 .if1 .left) (at-else2 .if2 .left) (c .before .before .before .before .before .before .digit-value2 .ensures) (c .before .before .before .before .before .if3 .left) (c .before .before .before .before .if4 .left) (c .before .before .before .if5 .left) _ (c .before .before .digit-value3 .ensures) (c .before .if6 .left) (c .if7 .taken)
 
 digit-value-requires-4 : tie.Need-digit-value-requires-4
 digit-value-requires-4 c κs = search needs
 
 returns-8 : tie.Need-returns-8
-returns-8 c = no-fourth _ _ _ _ _ _ _ (c .before .before .before .before .before .before .before .before .before .before .before .digit-value .ensures) (c .before .before .before .before .before .before .before .before .before .before .if1 .left) (c .before .before .before .before .before .before .before .before .before .if2 .left) (c .before .before .before .before .before .before .before .before .digit-value2 .ensures) (c .before .before .before .before .before .before .before .if3 .left) (c .before .before .before .before .before .before .if4 .left) (c .before .before .before .before .before .if5 .left) _ (c .before .before .before .before .digit-value3 .ensures) (c .before .before .before .if6 .left) (c .before .before .if7 .left) _ (c .before .digit-value4 .ensures) (c .if8 .taken)
+returns-8 c = no-fourth _ _ _ _ _ _ _ (after-digit-value (else1 (else2 (c .before))) .digit-value .ensures) (else1 (else2 (c .before)) .if1 .left) (else2 (c .before) .if2 .left) (c .before .before .before .before .before .before .before .before .digit-value2 .ensures) (c .before .before .before .before .before .before .before .if3 .left) (c .before .before .before .before .before .before .if4 .left) (c .before .before .before .before .before .if5 .left) _ (c .before .before .before .before .digit-value3 .ensures) (c .before .before .before .if6 .left) (c .before .before .if7 .left) _ (c .before .digit-value4 .ensures) (c .if8 .taken)
 
 mul-t18 : tie.Need-mul-t18
 mul-t18 c = search needs
@@ -71,10 +89,10 @@ cast-t20 : tie.Need-cast-t20
 cast-t20 c = search needs
 
 returns-9 : tie.Need-returns-9
-returns-9 c = four-digits _ _ _ _ _ _ _ (c .before .before .before .before .before .before .before .before .before .before .before .before .digit-value .ensures) (c .before .before .before .before .before .before .before .before .before .before .before .if1 .left) (c .before .before .before .before .before .before .before .before .before .before .if2 .left) (c .before .before .before .before .before .before .before .before .before .digit-value2 .ensures) (c .before .before .before .before .before .before .before .before .if3 .left) (c .before .before .before .before .before .before .before .if4 .left) (c .before .before .before .before .before .before .if5 .left) _ (c .before .before .before .before .before .digit-value3 .ensures) (c .before .before .before .before .if6 .left) (c .before .before .before .if7 .left) _ (c .before .before .digit-value4 .ensures) (c .before .if8 .left) (c .if9 .taken)
+returns-9 c = four-digits _ _ _ _ _ _ _ (after-digit-value (else1 (else2 (c .before .before))) .digit-value .ensures) (else1 (else2 (c .before .before)) .if1 .left) (else2 (c .before .before) .if2 .left) (c .before .before .before .before .before .before .before .before .before .digit-value2 .ensures) (c .before .before .before .before .before .before .before .before .if3 .left) (c .before .before .before .before .before .before .before .if4 .left) (c .before .before .before .before .before .before .if5 .left) _ (c .before .before .before .before .before .digit-value3 .ensures) (c .before .before .before .before .if6 .left) (c .before .before .before .if7 .left) _ (c .before .before .digit-value4 .ensures) (c .before .if8 .left) (c .if9 .taken)
 
 returns-10 : tie.Need-returns-10
-returns-10 c = no-end _ _ _ _ _ _ _ (c .before .before .before .before .before .before .before .before .before .before .before .before .digit-value .ensures) (c .before .before .before .before .before .before .before .before .before .before .before .if1 .left) (c .before .before .before .before .before .before .before .before .before .before .if2 .left) (c .before .before .before .before .before .before .before .before .before .digit-value2 .ensures) (c .before .before .before .before .before .before .before .before .if3 .left) (c .before .before .before .before .before .before .before .if4 .left) (c .before .before .before .before .before .before .if5 .left) _ (c .before .before .before .before .before .digit-value3 .ensures) (c .before .before .before .before .if6 .left) (c .before .before .before .if7 .left) _ (c .before .before .digit-value4 .ensures) (c .before .if8 .left) (c .if9 .left)
+returns-10 c = no-end _ _ _ _ _ _ _ (after-digit-value (else1 (else2 (c .before .before))) .digit-value .ensures) (else1 (else2 (c .before .before)) .if1 .left) (else2 (c .before .before) .if2 .left) (c .before .before .before .before .before .before .before .before .before .digit-value2 .ensures) (c .before .before .before .before .before .before .before .before .if3 .left) (c .before .before .before .before .before .before .before .if4 .left) (c .before .before .before .before .before .before .if5 .left) _ (c .before .before .before .before .before .digit-value3 .ensures) (c .before .before .before .before .if6 .left) (c .before .before .before .if7 .left) _ (c .before .before .digit-value4 .ensures) (c .before .if8 .left) (c .if9 .left)
 
 pub power-of-spec : {M : Type 1} → statement M
 power-of-spec =

@@ -22,6 +22,10 @@ Inv-loop statuses₀ keys marks₀ rows places count paired clock by own ps all-
 abbrev μ-loop : tie.MeasureT-loop
 μ-loop statuses₀ keys marks₀ rows places count paired clock by own ps all-statuses all-marks j₀ statuses marks j = count - j
 
+-- back from a context to an earlier one
+abbrev start : tie.In-loop Inv-loop μ-loop → tie.Start Inv-loop μ-loop
+start c = c .before .before .before .before .before .before .before .before
+
 size-u8-requires : tie.Need-size-u8-requires Inv-loop μ-loop
 size-u8-requires c κs = search needs
 
@@ -58,10 +62,11 @@ loop-less c = search needs
 
 loop-again : tie.Need-loop-again Inv-loop μ-loop
 loop-again c =
-    let p = c .before .before .before .before .before .before .before .before .before .before .before .before .before .args in
+    let at-byte = c .before .before .before in
+    let p = start (c .before .before .before .before .before) .args in
     let q = c .before .before .before .before .before .before .loop in
-    let i = c .before .before .before .byte .result in
-    let small = c .before .before .before .byte .ensures .1 in
+    let i = at-byte .byte .result in
+    let small = at-byte .byte .ensures .1 in
     let h : i < length (p .statuses .now) = omega (arith, q .inv .1) in
     let m : i < length (p .marks .now) = omega (arith, q .inv .2) in (
       omega arith,
@@ -70,7 +75,7 @@ loop-again c =
       (λ ids n l.
           let cols = columns (p .statuses .now) ids (p .keys .now) (p .marks .now) (p .rows .now) in
           changed-listed (p .paired) (p .clock) (p .by) (p .own) (p .ps) cols n (p .count) (q .j) i (p .places .now)
-          (q .statuses) _ (q .marks) _ l (omega arith) (c .before .before .before .byte .ensures .0) h m
+          (q .statuses) _ (q .marks) _ l (omega arith) (at-byte .byte .ensures .0) h m
           (q .inv .3 ids n l) (c .change-at .ensures ids)),
     )
 

@@ -1,6 +1,5 @@
 -- `Head::nets_of` meets its contract: both nets start from the loads' rows, and the records are passed.
 use native.Mathlib.Omega.{arith}
-use mathlib.Core.Path.{sym, subst}
 use Rattle.calendar.proofs.StepCounts.{steps-small}
 use Rattle.register.proofs.Records.{under-listed}
 use Rattle.register.proofs.Fits.{netted-at}

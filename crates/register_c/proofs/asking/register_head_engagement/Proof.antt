@@ -1,4 +1,4 @@
-use mathlib.Core.Path.{_≡_, ap, sym, _∙_}
+use mathlib.Core.Path.{ap, _∙_}
 use Rattle.answers.specs.Values.{saidEngaged}
 use borrow.Author.Needs.{needs}
 use Rattle.register_c.proofs.asking.register_head_engagement.Statement.{statement}

@@ -1,4 +1,4 @@
-use mathlib.Core.Path.{_≡_, ap, sym, _∙_}
+use mathlib.Core.Path.{ap, sym, _∙_}
 use Rattle.register_c.specs.Faces.{flatWritten}
 use borrow.Author.Needs.{needs}
 use Rattle.register_c.proofs.files.flat_written.Statement.{statement}

@@ -1,5 +1,4 @@
 -- Up to four digits are told by comparing. Of more, the digits counted and those of what is left are as many as all of them and one.
-use borrow.Author.Needs.{needs}
 use mathlib.Core.Path.{_≡_, sym}
 use Prim.Native.Nat.{_+_, _<_}
 use native.Mathlib.Omega.{arith}

@@ -1,5 +1,4 @@
 -- A comma ends the number.
-use borrow.Author.Needs.{needs}
 use borrow.Author.Tests.{eqb-true}
 use Rattle.script.proofs.Spelling.{spelt-ended}
 use Rattle.script.proofs.numbers.ended_number.Statement.{statement}

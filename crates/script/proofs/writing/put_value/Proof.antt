@@ -1,6 +1,5 @@
 -- A comma, and a letter or a number.
 use borrow.Author.Needs.{needs}
-use mathlib.Core.Path.{_∙_}
 use native.Mathlib.Omega.{arith}
 use lib.ListN.{length-set}
 use Rattle.writer.proofs.Placed.{placed-length}

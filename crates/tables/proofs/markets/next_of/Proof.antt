@@ -26,6 +26,13 @@ Inv-loop2 keys i n market last k₀ end k =
 abbrev μ-loop2 : tie.MeasureT-loop2
 μ-loop2 keys i n market last k₀ end k = last - k
 
+-- back from a context to an earlier one
+abbrev after-least : tie.In-loop2 Inv-loop μ-loop Inv-loop2 μ-loop2 → tie.After-least Inv-loop μ-loop Inv-loop2 μ-loop2
+after-least c = c .before .before .before .before .before .before .before .before
+
+abbrev start : tie.After-least Inv-loop μ-loop Inv-loop2 μ-loop2 → tie.Start Inv-loop μ-loop Inv-loop2 μ-loop2
+start c = c .before
+
 least-requires : tie.Need-least-requires Inv-loop μ-loop Inv-loop2 μ-loop2
 least-requires c κs = search needs
 
@@ -56,8 +63,9 @@ sub-end c = search needs
 
 loop-holds : tie.Need-loop-holds Inv-loop μ-loop Inv-loop2 μ-loop2
 loop-holds c =
-    let a = c .before .before .before .before .before .args in
-    let l = c .before .before .before .before .least in (
+    let at-least = c .before .before .before .before in
+    let a = start at-least .args in
+    let l = at-least .least in (
       omega arith,
       ap (λ m. firstFrom (inMarket (a .keys .now) (a .market)) (a .i) (m - a .i)) (sym (l .ensures))
           ∙ first-past (inMarket (a .keys .now) (a .market)) (a .i) (l .result) (omega arith) (ne-eqb _ _ (c .before .if2 .left)),
@@ -71,9 +79,10 @@ add-result c = omega (arith, trailing-le 32 (c .before .bits-of-four .result))
 
 returns-3 : tie.Need-returns-3 Inv-loop μ-loop Inv-loop2 μ-loop2
 returns-3 c =
+    let at-least = c .before .before .before .before .before .before .before .before in
     let b = c .before .before .before .loop in
-    let a = c .before .before .before .before .before .before .before .before .before .args in
-    let last = c .before .before .before .before .before .before .before .before .least .result in
+    let a = start at-least .args in
+    let last = at-least .least .result in
     let f = c .before .bits-of-four .ensures in
     rw f
     (first-at-bit (inMarket (a .keys .now) (a .market)) 32 (b .k) 4 last (omega arith) (omega arith) (λ e. c .if3 .taken (f ∙ e))
@@ -87,9 +96,10 @@ loop-less c = search needs
 
 loop-again : tie.Need-loop-again Inv-loop μ-loop Inv-loop2 μ-loop2
 loop-again c =
+    let at-least = c .before .before .before .before .before .before .before .before in
     let b = c .before .before .before .loop in
-    let a = c .before .before .before .before .before .before .before .before .before .args in
-    let last = c .before .before .before .before .before .before .before .before .least .result in
+    let a = start at-least .args in
+    let last = at-least .least .result in
     let f = c .before .bits-of-four .ensures in
     (omega arith, b .inv .1 ∙ first-past-bits (inMarket (a .keys .now) (a .market)) (b .k) 4 last (omega arith) (sym f ∙ c .if3 .left))
 
@@ -108,8 +118,8 @@ element-copy-out-if4 c = search needs
 returns-4 : tie.Need-returns-4 Inv-loop μ-loop Inv-loop2 μ-loop2
 returns-4 c =
     let b = c .before .before .before .loop2 in
-    let a = c .before .before .before .before .before .before .before .before .before .before .before .args in
-    let last = c .before .before .before .before .before .before .before .before .before .before .least .result in
+    let a = start (after-least (c .before .before)) .args in
+    let last = after-least (c .before .before) .least .result in
     sym (b .inv .1 ∙ first-here (inMarket (a .keys .now) (a .market)) (b .k) last (omega arith) (eq-eqb _ _ (c .if4 .taken)))
 
 add-k-3 : tie.Need-add-k-3 Inv-loop μ-loop Inv-loop2 μ-loop2
@@ -121,15 +131,16 @@ loop2-less c = search needs
 loop2-again : tie.Need-loop2-again Inv-loop μ-loop Inv-loop2 μ-loop2
 loop2-again c =
     let b = c .before .before .before .loop2 in
-    let a = c .before .before .before .before .before .before .before .before .before .before .before .args in
-    let last = c .before .before .before .before .before .before .before .before .before .before .least .result in
+    let a = start (after-least (c .before .before)) .args in
+    let last = after-least (c .before .before) .least .result in
     (omega arith, b .inv .1 ∙ first-past (inMarket (a .keys .now) (a .market)) (b .k) last (omega arith) (ne-eqb _ _ (c .if4 .left)))
 
 returns-5 : tie.Need-returns-5 Inv-loop μ-loop Inv-loop2 μ-loop2
 returns-5 c =
+    let at-least = c .before .before .before .before .before .before .before .before in
     let b = c .before .loop2 in
-    let a = c .before .before .before .before .before .before .before .before .before .args in
-    let last = c .before .before .before .before .before .before .before .before .least .result in
+    let a = start at-least .args in
+    let last = at-least .least .result in
     let e : b .k ≡ last = omega arith in
     sym (b .inv .1 ∙ (first-end (inMarket (a .keys .now) (a .market)) (b .k) last (omega arith) ∙ e))
 

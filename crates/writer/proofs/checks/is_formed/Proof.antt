@@ -6,6 +6,10 @@ use Rattle.notification.proofs.Tested.{formed-tests}
 use Rattle.writer.proofs.checks.is_formed.Statement.{statement}
 use Rattle.writer.proofs.checks.is_formed.Tie as tie
 
+-- back from a context to an earlier one
+abbrev start : tie.After-is-code2 → tie.Start
+start c = c .before .before .before .before .before .before .before .before
+
 category-length-requires : tie.Need-category-length-requires
 category-length-requires c κs = search needs
 
@@ -33,7 +37,7 @@ is-category-requires c κs = search needs
 returns : tie.Need-returns
 returns c =
     let n = c .before .before .before .before .before .before .category-length in
-    formed-tests (c .before .before .before .before .before .before .before .before .before .before .args .key) _ _ _ (n .result)
+    formed-tests (start (c .before .before) .args .key) _ _ _ (n .result)
     (c .before .before .before .before .is-code .ensures) (c .before .before .is-code2 .ensures) (c .is-category .ensures) (n .ensures .0)
 
 pub is-formed-spec : {M : Type 1} → statement M

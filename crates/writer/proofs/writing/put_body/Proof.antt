@@ -6,6 +6,10 @@ use Rattle.writer.proofs.Pieces.{ranged-powers, room-header, room-lines
 use Rattle.writer.proofs.writing.put_body.Statement.{statement}
 use Rattle.writer.proofs.writing.put_body.Tie as tie
 
+-- back from a context to an earlier one
+abbrev start : tie.After-put-lines → tie.Start
+start c = c .before .before .before .before .before .before .before .before .before
+
 put-header-requires : tie.Need-put-header-requires
 put-header-requires c κs = let a = c .before .before .before in room-header (a .args .n) (a .args .buffer .now) (a .pre .1)
 
@@ -24,7 +28,7 @@ same-length c = search needs
 
 returns : tie.Need-returns
 returns c =
-    let a = c .before .before .before .before .before .before .before .before .before .before .before in
+    let a = start (c .before .before) in
     body-placed (a .args .n) (a .args .buffer .now) (a .pre .1) _ _ (c .before .before .before .before .before .before .before .put-header .ensures) _
     _ (c .before .before .put-lines .ensures)
 

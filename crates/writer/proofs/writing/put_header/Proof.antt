@@ -8,6 +8,10 @@ use Rattle.writer.proofs.Pieces.{room-parts, room-last, room-LF, header
 use Rattle.writer.proofs.writing.put_header.Statement.{statement}
 use Rattle.writer.proofs.writing.put_header.Tie as tie
 
+-- back from a context to an earlier one
+abbrev start : tie.After-put-start → tie.Start
+start c = c .before .before .before .before .before
+
 category-length-requires : tie.Need-category-length-requires
 category-length-requires c κs = search needs
 
@@ -25,37 +29,42 @@ slice-aggregate-put-ended c = sym (length-take-le _ _ (c .before .before .before
 
 put-ended-requires : tie.Need-put-ended-requires
 put-ended-requires c κs =
-    let a = c .before .before .before .before .before .before .before .before .before in
+    let at-put-start = c .before .before .before .before in
+    let a = start at-put-start in
     let n = c .before .before .before .before .before .before .category-length in
-    room-last (a .args .key) (a .args .buffer .now) (a .pre) _ (n .ensures .0) _ _ (c .before .before .before .before .put-start .ensures)
+    room-last (a .args .key) (a .args .buffer .now) (a .pre) _ (n .ensures .0) _ _ (at-put-start .put-start .ensures)
 
 slice-write-buffer : tie.Need-slice-write-buffer
 slice-write-buffer c =
-    let a = c .before .before .before .before .before .before .before .before .before .before .before .before in
+    let at-put-start = c .before .before .before .before .before .before .before in
+    let a = start at-put-start in
     let n = c .before .before .before .before .before .before .before .before .before .category-length in
     room-LF (a .args .key) (a .args .buffer .now) (a .pre) _ (n .ensures .0) _ _
-    (c .before .before .before .before .before .before .before .put-start .ensures) _ _ (c .before .before .put-ended .ensures) .0
+    (at-put-start .put-start .ensures) _ _ (c .before .before .put-ended .ensures) .0
 
 add-result : tie.Need-add-result
 add-result c =
-    let a = c .before .before .before .before .before .before .before .before .before .before .before .before in
+    let at-put-start = c .before .before .before .before .before .before .before in
+    let a = start at-put-start in
     let n = c .before .before .before .before .before .before .before .before .before .category-length in
-    let e = room-LF (a .args .key) (a .args .buffer .now) (a .pre) _ (n .ensures .0) _ _ (c .before .before .before .before .before .before .before .put-start .ensures) _ _ (c .before .before .put-ended .ensures) in
-    omega (arith, e .0, e .1, c .before .before .before .before .before .before .before .before .before .before .before .before .good .0)
+    let e = room-LF (a .args .key) (a .args .buffer .now) (a .pre) _ (n .ensures .0) _ _ (at-put-start .put-start .ensures) _ _ (c .before .before .put-ended .ensures) in
+    omega (arith, e .0, e .1, start at-put-start .good .0)
 
 same-length : tie.Need-same-length
 same-length c =
-    let a = c .before .before .before .before .before .before .before .before .before .before .before .before in
+    let at-put-start = c .before .before .before .before .before .before .before in
+    let a = start at-put-start in
     let n = c .before .before .before .before .before .before .before .before .before .category-length in
     simp length-set
-    (room-LF (a .args .key) (a .args .buffer .now) (a .pre) _ (n .ensures .0) _ _ (c .before .before .before .before .before .before .before .put-start .ensures) _ _ (c .before .before .put-ended .ensures) .1)
+    (room-LF (a .args .key) (a .args .buffer .now) (a .pre) _ (n .ensures .0) _ _ (at-put-start .put-start .ensures) _ _ (c .before .before .put-ended .ensures) .1)
 
 returns : tie.Need-returns
 returns c =
-    let a = c .before .before .before .before .before .before .before .before .before .before .before .before in
+    let at-put-start = c .before .before .before .before .before .before .before in
+    let a = start at-put-start in
     let n = c .before .before .before .before .before .before .before .before .before .category-length in
     header-placed (a .args .key) (a .args .buffer .now) (a .pre) _ (n .ensures .0) _ _
-    (c .before .before .before .before .before .before .before .put-start .ensures) _ _ (c .before .before .put-ended .ensures)
+    (at-put-start .put-start .ensures) _ _ (c .before .before .put-ended .ensures)
 
 pub put-header-spec : {M : Type 1} → statement M
 put-header-spec =
