@@ -75,7 +75,7 @@ line-letter (x ∷ y ∷ s) h l e =
 
 -- ---- which letter
 
-pub line-with : (line : List ℕ) (b : ℕ) → 2 ≤ length line → length line ≤ lineMost → getD line 1 0 ≡ comma → getD line 0 0 ≡ b
+line-with : (line : List ℕ) (b : ℕ) → 2 ≤ length line → length line ≤ lineMost → getD line 1 0 ≡ comma → getD line 0 0 ≡ b
     → lineOf line ≡ byLetter b (fieldsFrom line start)
 line-with line b h l e k = rw (← k) (line-letter line h l e)
 

@@ -3,7 +3,7 @@
 use mathlib.Core.Path.{_≡_, refl, sym, ap, _∙_}
 use mathlib.Core.Bool.{true, false, _&&_}
 use mathlib.Core.List.{List, [], _∷_}
-use Prim.Native.Nat.{ℕ, _+_, _-_, _<_, _≤_}
+use Prim.Native.Nat.{ℕ, _+_, _<_, _≤_}
 use native.Mathlib.Omega.{arith}
 use lib.Dec.{ltb}
 use lib.ListN.{length, take, drop}
@@ -13,7 +13,7 @@ use Rattle.lists.proofs.Tests.{by-test, and-right}
 use Rattle.calendar.specs.Dates.{dayCount}
 use Rattle.ledger.specs.Call as Call
 use Rattle.script.specs.Numbers.{numberEnd, isNumber, valueOf, dayIn, isDay}
-use Rattle.script.specs.Lines.{Asked, calls, fileOf, recordOf, unknown, comma, advanceLine, enrolLine, categoryLine, fileLine, recordLine}
+use Rattle.script.specs.Lines.{Asked, calls, fileOf, recordOf, unknown, comma, fields, advanceLine, enrolLine, categoryLine, fileLine, recordLine}
 use Rattle.script.specs.Fields.{fieldsFrom, numberIn}
 use Rattle.script.specs.Spans.{cut, start, endOf, plain, readAs}
 use Rattle.script.specs.Walking.{FieldEnd, lettered}

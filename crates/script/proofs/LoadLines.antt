@@ -64,7 +64,7 @@ module _ (line : List ℕ) (a : ℕ) (pa : FieldEnd line start a) where
           pub load-bad : (ltb day dayCount && ltb v numberEnd && ltb 0 n) ≡ false → Reads line noLine (loadLine (fieldsFrom line start))
           load-bad t = unknown-as line {a = loadLine (fieldsFrom line start)} (sym (asks ∙ rw t))
 
-          pub load-numbers : (ltb day dayCount && ltb v numberEnd && ltb 0 n) ≡ true → (every isNumber (fieldsFrom line (d + 1)) ≡ true) × (n ≡ length (fieldsFrom line (d + 1)))
+          load-numbers : (ltb day dayCount && ltb v numberEnd && ltb 0 n) ≡ true → (every isNumber (fieldsFrom line (d + 1)) ≡ true) × (n ≡ length (fieldsFrom line (d + 1)))
           load-numbers t =
               let k = ltb-true 0 n (and-right (ltb day dayCount && ltb v numberEnd) (ltb 0 n) t) in
               let s = count-some (fieldsFrom line (d + 1)) (rw (← r) k) in

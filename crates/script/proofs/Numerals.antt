@@ -59,7 +59,7 @@ needless-none s t =
     let e = needless (eqb (length s) 1) (eqb (getD s 0 0) 48) t in
     rw e (no-third (leb 1 (length s)) (leb (length s) mostDigits) (every digit s))
 
-pub other-none : (s : List ℕ) → every digit s ≡ false → isNumber s ≡ false
+other-none : (s : List ℕ) → every digit s ≡ false → isNumber s ≡ false
 unfolding isNumber
 other-none s e = rw e (no-fourth (leb 1 (length s)) (leb (length s) mostDigits) (needed s))
 
@@ -94,12 +94,6 @@ module _ (s : List ℕ) (i v : ℕ) (h : i < length s) (p : Sofar s i v) where
         decides = rw (add-one i) ((rw (e, le-leb 48 (getD s i 0) k, le-leb (getD s i 0) 57 l) at (p .decides)));
         value = rw (add-one i) ((rw e at (p .value)));
       }
-
-pub sofar-small : (s : List ℕ) (i v : ℕ) → length s ≤ mostDigits → Sofar s i v → v < numberEnd
-sofar-small s i v h p =
-    let few = p .few in
-    let l : 10 ^ i ≤ 10 ^ mostDigits = pow-le-pow-right {n = 10} (omega arith) {i = i} {j = mostDigits} (omega arith) in
-    omega (arith, p .small)
 
 pub sofar-room : (s : List ℕ) (i v : ℕ) → i < length s → length s ≤ mostDigits → Sofar s i v → v < 10000
 sofar-room s i v k h p =
@@ -148,7 +142,7 @@ number-small s e =
     let l : 10 ^ (0 + length s) ≤ 10 ^ mostDigits = pow-le-pow-right {n = 10} (omega arith) {i = 0 + length s} {j = mostDigits} (omega arith) in
     omega (arith, number-value s e)
 
-pub none-end : (s : List ℕ) → isNumber s ≡ false → numberIn s ≡ numberEnd
+none-end : (s : List ℕ) → isNumber s ≡ false → numberIn s ≡ numberEnd
 none-end s e = sym (is-none s e)
 
 -- a text is a number where what it stands for is below the end

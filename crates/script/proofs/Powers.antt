@@ -111,7 +111,7 @@ module _ {line : List ℕ} {from m at count : ℕ} {numbers : List ℕ} (t : Tak
         holds = rw (add-one count, take-suc-set numbers count (r .value) k, append-assoc, f .value) (rw (f .ends .parts, s, add-one count) at (t .holds));
       }
 
-  pub taking-all : (ltb count m && leb at (length line)) ≡ false → take count numbers ≡ take m (map numberIn (fieldsFrom line from))
+  taking-all : (ltb count m && leb at (length line)) ≡ false → take count numbers ≡ take m (map numberIn (fieldsFrom line from))
   taking-all e =
       sym (append-nil (take count numbers))
       ∙ (ap (λ (xs : List ℕ). take count numbers ++ xs)

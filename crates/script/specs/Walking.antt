@@ -6,8 +6,10 @@ use Prim.Native.Nat.{ℕ, _+_, _≤_, _<_}
 use lib.ListN.{length, take}
 use Rattle.lists.specs.Searches.{every}
 use Rattle.script.specs.Numbers.{isNumber, valueOf}
+use Rattle.script.specs.Lines.{Asked}
 use Rattle.script.specs.Fields.{fieldsFrom, numberIn}
-use Rattle.script.specs.Spans.{cut, start}
+use Rattle.script.specs.Spans.{cut, start, endOf, readAs}
+use Rattle.script.specs.declared.reading.Line.{Line}
 use Rattle.script.specs.declared.numbers.Numeral.{Numeral}
 
 -- where the field that starts at a place ends: it is the line's span up to there, and the other fields start after it
@@ -19,6 +21,10 @@ pub record FieldEnd (line : List ℕ) (from end : ℕ) : Type 0 where
 -- the fields of a line that begins with a letter and a comma
 abbrev pub lettered : List ℕ → List (List ℕ)
 lettered line = take 1 line ∷ fieldsFrom line start
+
+-- such a line as it is read, by what its other fields say in a form
+abbrev pub readBy : List ℕ → (List (List ℕ) → Asked) → Line
+readBy line form = readAs (endOf (lettered line)) (form (fieldsFrom line start))
 
 -- the bytes from a place to before another are a number, and more bytes follow
 pub record Spelt (line : List ℕ) (from v end : ℕ) : Type 0 where

@@ -4,9 +4,8 @@ ghost use Prim.Native.Nat.{_≤_};
 ghost use lib.ListN.{length};
 ghost use Rattle.script.specs.Lines.{lineMost, advanceLine, enrolLine, categoryLine, loadLine, fileLine};
 ghost use Rattle.script.specs.Lines.{engagementLine, recordLine};
-ghost use Rattle.script.specs.Fields.{fieldsFrom};
-ghost use Rattle.script.specs.Spans.{start, namesFile, endOf, readAs, lineRead};
-ghost use Rattle.script.specs.Walking.{lettered};
+ghost use Rattle.script.specs.Spans.{start, namesFile, lineRead};
+ghost use Rattle.script.specs.Walking.{readBy};
 use crate::fields::code_end;
 use crate::fields::date_end;
 use crate::fields::day_in;
@@ -61,8 +60,7 @@ const UNKNOWN: Line = Line {
 // `T,date,minute`
 fn advance(line: &[u8]) -> Line
     requires { ⌜ (start ≤ length (now line)) × (length (now line) ≤ lineMost) ⌝ }
-    ensures { λ r. ⌜ r ≡ readAs (endOf (lettered (now (line .entry))))
-        (advanceLine (fieldsFrom (now (line .entry)) start)) ⌝ }
+    ensures { λ r. ⌜ r ≡ readBy (now (line .entry)) advanceLine ⌝ }
 {
     let n = line.len();
     let first: usize = 2;
@@ -88,8 +86,7 @@ fn advance(line: &[u8]) -> Line
 // `A,code,first,last`
 fn enrol(line: &[u8]) -> Line
     requires { ⌜ (start ≤ length (now line)) × (length (now line) ≤ lineMost) ⌝ }
-    ensures { λ r. ⌜ r ≡ readAs (endOf (lettered (now (line .entry))))
-        (enrolLine (fieldsFrom (now (line .entry)) start)) ⌝ }
+    ensures { λ r. ⌜ r ≡ readBy (now (line .entry)) enrolLine ⌝ }
 {
     let n = line.len();
     let code = code_end(line, 2);
@@ -124,8 +121,7 @@ fn enrol(line: &[u8]) -> Line
 // `C,category`
 fn category(line: &[u8]) -> Line
     requires { ⌜ (start ≤ length (now line)) × (length (now line) ≤ lineMost) ⌝ }
-    ensures { λ r. ⌜ r ≡ readAs (endOf (lettered (now (line .entry))))
-        (categoryLine (fieldsFrom (now (line .entry)) start)) ⌝ }
+    ensures { λ r. ⌜ r ≡ readBy (now (line .entry)) categoryLine ⌝ }
 {
     let end = field_end(line, 2);
     if end < line.len() {
@@ -141,8 +137,7 @@ fn category(line: &[u8]) -> Line
 // `F,submitter,name`
 fn file(line: &[u8]) -> Line
     requires { ⌜ (start ≤ length (now line)) × (length (now line) ≤ lineMost) ⌝ }
-    ensures { λ r. ⌜ r ≡ readAs (endOf (lettered (now (line .entry))))
-        (fileLine (fieldsFrom (now (line .entry)) start)) ⌝ }
+    ensures { λ r. ⌜ r ≡ readBy (now (line .entry)) fileLine ⌝ }
 {
     let n = line.len();
     let submitter = code_end(line, 2);
@@ -164,8 +159,7 @@ fn file(line: &[u8]) -> Line
 // `E,actor,category,date,step`
 fn engagement(line: &[u8]) -> Line
     requires { ⌜ (start ≤ length (now line)) × (length (now line) ≤ lineMost) ⌝ }
-    ensures { λ r. ⌜ r ≡ readAs (endOf (lettered (now (line .entry))))
-        (engagementLine (fieldsFrom (now (line .entry)) start)) ⌝ }
+    ensures { λ r. ⌜ r ≡ readBy (now (line .entry)) engagementLine ⌝ }
 {
     let n = line.len();
     let actor = code_end(line, 2);
@@ -201,8 +195,7 @@ fn engagement(line: &[u8]) -> Line
 // `R,asker,id`
 fn record_of(line: &[u8]) -> Line
     requires { ⌜ (start ≤ length (now line)) × (length (now line) ≤ lineMost) ⌝ }
-    ensures { λ r. ⌜ r ≡ readAs (endOf (lettered (now (line .entry))))
-        (recordLine (fieldsFrom (now (line .entry)) start)) ⌝ }
+    ensures { λ r. ⌜ r ≡ readBy (now (line .entry)) recordLine ⌝ }
 {
     let n = line.len();
     let asker = code_end(line, 2);
@@ -226,8 +219,7 @@ fn record_of(line: &[u8]) -> Line
 // `L,actor,category,date,approved,` then one power or more
 fn load(line: &[u8]) -> Line
     requires { ⌜ (start ≤ length (now line)) × (length (now line) ≤ lineMost) ⌝ }
-    ensures { λ r. ⌜ r ≡ readAs (endOf (lettered (now (line .entry))))
-        (loadLine (fieldsFrom (now (line .entry)) start)) ⌝ }
+    ensures { λ r. ⌜ r ≡ readBy (now (line .entry)) loadLine ⌝ }
 {
     let n = line.len();
     let actor = code_end(line, 2);
