@@ -7,6 +7,7 @@ pub mod Powers
 pub mod Cuts
 pub mod FieldEnds
 pub mod LineKinds
+pub mod FileLines
 pub mod EngagementLines
 pub mod LoadLines
 pub mod Letters

@@ -1,4 +1,4 @@
--- The kinds of lines but E and L, field by field: a line whose fields are too few or too many is unknown, and one whose fields are as many as its
+-- The kinds of lines but F, E and L, field by field: a line whose fields are too few or too many is unknown, and one whose fields are as many as its
 -- kind has says what their tests and values say.
 use mathlib.Core.Path.{_≡_, refl, sym, ap, _∙_}
 use mathlib.Core.Bool.{true, false, _&&_}
@@ -13,17 +13,17 @@ use Rattle.lists.proofs.Tests.{by-test, and-right}
 use Rattle.calendar.specs.Dates.{dayCount}
 use Rattle.ledger.specs.Call as Call
 use Rattle.script.specs.Numbers.{numberEnd, isNumber, valueOf, dayIn, isDay}
-use Rattle.script.specs.Lines.{Asked, calls, fileOf, recordOf, unknown, comma, fields, advanceLine, enrolLine, categoryLine, fileLine, recordLine}
+use Rattle.script.specs.Lines.{Asked, calls, recordOf, unknown, comma, fields, advanceLine, enrolLine, categoryLine, recordLine}
 use Rattle.script.specs.Fields.{fieldsFrom, numberIn}
 use Rattle.script.specs.Spans.{cut, start, endOf, plain, readAs}
 use Rattle.script.specs.Walking.{FieldEnd, lettered}
 use Rattle.script.specs.declared.reading.CallKind.the-variants.{Advance, EnrolActor, EnrolCategory}
-use Rattle.script.specs.declared.reading.Kind.the-variants.{Calls, Files, RecordOf, Unknown}
+use Rattle.script.specs.declared.reading.Kind.the-variants.{Calls, RecordOf, Unknown}
 use Rattle.script.specs.declared.reading.Line.{Line}
 use Rattle.script.proofs.Parting.{restAt, from-inside, from-past, fields-parted, field-ends}
 use Rattle.script.proofs.Numerals.{number-test, number-value}
 use Rattle.script.proofs.Spelling.{number-last}
-use Rattle.script.proofs.FieldEnds.{end-one, end-two}
+use Rattle.script.proofs.FieldEnds.{end-one}
 
 abbrev pub noLine : Line
 noLine = plain Unknown 0 0 0 0
@@ -141,24 +141,6 @@ module _ (line : List ℕ) (a : ℕ) (pa : FieldEnd line start a) where
   pub category-good : length line ≤ a → Reads line (plain (Calls EnrolCategory) a 0 0 0) (categoryLine (fieldsFrom line start))
   unfolding categoryLine
   category-good h = read-as line {a = calls (Call.enrolCategory (cut line start a))} {b = categoryLine (fieldsFrom line start)} (rw (end-one pa) refl) (rw (pa .parts, none-after line a h))
-
--- ---- F
-
-module _ (line : List ℕ) (a : ℕ) (pa : FieldEnd line start a) where
-  pub file-short : length line ≤ a → Reads line noLine (fileLine (fieldsFrom line start))
-  unfolding fileLine
-  file-short h = unknown-as line {a = fileLine (fieldsFrom line start)} (rw (pa .parts, none-after line a h))
-
-  module _ (b : ℕ) (pb : FieldEnd line (a + 1) b) where
-    pub file-long : b < length line → Reads line noLine (fileLine (fieldsFrom line start))
-    unfolding fileLine
-    file-long h = unknown-as line {a = fileLine (fieldsFrom line start)} (rw (pa .parts, pb .parts, some-after line b h))
-
-    pub file-good : length line ≤ b → Reads line (plain Files a b 0 0) (fileLine (fieldsFrom line start))
-    unfolding fileLine
-    file-good h =
-        read-as line {a = fileOf (cut line start a) (cut line (a + 1) b)} {b = fileLine (fieldsFrom line start)} (rw (end-one pa, end-two pa pb) refl)
-        (rw (pa .parts, pb .parts, none-after line b h))
 
 -- ---- R
 

@@ -8,7 +8,6 @@ use calendar::DAYS;
 use calendar::Day;
 use calendar::day_of;
 use lists::bytes::byte_from;
-use lists::bytes::far_byte_from;
 use lists::bytes::has_byte;
 
 // Where the field that starts at a place ends: at the next comma, or at the end of the line.
@@ -45,14 +44,6 @@ pub(crate) fn code_end(line: &[u8], from: usize) -> usize
         }
     }
     byte_from(line, from, b',')
-}
-
-// Where a field that is likely the name of a file ends: it is long.
-pub(crate) fn name_end(line: &[u8], from: usize) -> usize
-    requires { ⌜ from ≤ length (now line) ⌝ }
-    ensures { λ r. ⌜ FieldEnd (now (line .entry)) from r ⌝ }
-{
-    far_byte_from(line, from, b',')
 }
 
 // The day of a date; the number of days where a text is no date.

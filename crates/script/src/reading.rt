@@ -10,11 +10,11 @@ use crate::fields::code_end;
 use crate::fields::date_end;
 use crate::fields::day_in;
 use crate::fields::field_end;
-use crate::fields::name_end;
 use crate::numbers::NUMBER_END;
 use crate::numbers::count_in;
 use crate::numbers::number_in;
 use calendar::DAYS;
+use lists::bytes::has_byte;
 
 // The calls of demand 3's list that are all on their line.
 pub enum CallKind {
@@ -144,14 +144,13 @@ fn file(line: &[u8]) -> Line
     if n <= submitter {
         return UNKNOWN;
     }
-    let end = name_end(line, submitter + 1);
-    if end < n {
+    if has_byte(&line[submitter + 1..n], b',') {
         return UNKNOWN;
     }
     Line {
         kind: Kind::Files,
         first: submitter as u32,
-        second: end as u32,
+        second: n as u32,
         ..UNKNOWN
     }
 }
