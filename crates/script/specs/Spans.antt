@@ -80,7 +80,7 @@ abbrev pub plain : Kind → ℕ → ℕ → ℕ → ℕ → Line
 plain kind first second day n =
     record { kind = kind; first = first; second = second; day = day; number = n; from = 0; count = 0 }
 
--- a line as it is read, by what it asks and where its fields end
+-- a line as it is read, by what it asks and where its fields end; a filing is no call before its body is found
 abbrev pub callAs : (ℕ → ℕ) → Call.Call → Line
 callAs end (Call.advance day minute) = plain (Calls Advance) 0 0 day minute
 callAs end (Call.enrolActor code first last) = plain (Calls EnrolActor) (end 1) 0 first last
