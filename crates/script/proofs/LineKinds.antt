@@ -13,7 +13,7 @@ use Rattle.lists.proofs.Tests.{by-test, and-right}
 use Rattle.calendar.specs.Dates.{dayCount}
 use Rattle.ledger.specs.Call as Call
 use Rattle.script.specs.Numbers.{numberEnd, isNumber, valueOf, dayIn, isDay}
-use Rattle.script.specs.Lines.{Asked, calls, recordOf, unknown, comma, fields, advanceLine, enrolLine, categoryLine, recordLine}
+use Rattle.script.specs.Lines.{Asked, calls, recordOf, unknown, comma, advanceLine, enrolLine, categoryLine, recordLine}
 use Rattle.script.specs.Fields.{fieldsFrom, numberIn}
 use Rattle.script.specs.Spans.{cut, start, endOf, plain, readAs}
 use Rattle.script.specs.Walking.{FieldEnd, lettered}
