@@ -1,5 +1,4 @@
 -- What holds of the lines of a script.
-pub mod LineEnds
 pub mod Fronts
 pub mod Names
 pub mod Walks

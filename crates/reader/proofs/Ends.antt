@@ -7,11 +7,10 @@ use native.Mathlib.Numerals.{add-one}
 use native.Mathlib.Omega.{arith}
 use lib.Dec.{ltb, eqb}
 use lib.ListN.{length, getD, take, drop, length-take, length-drop, take-append-drop, drop-of-length-le}
-use lib.Seq.{take-suc, drop-cons, drop-drop, getD-drop, take-all}
+use lib.Seq.{drop-cons, drop-drop, getD-drop, take-all}
 use borrow.Author.Tests.{not-true, eqb-true, ne-eqb, lt-ltb, ltb-false}
 use Rattle.lists.specs.Searches.{every, placeOf, isByte, byteFrom}
 use Rattle.lists.proofs.Tests.{by-test, and-left, and-right, and-true}
-use Rattle.lists.proofs.Searches.{every-append}
 use Rattle.lists.proofs.Places.{place-passes}
 use Rattle.lists.proofs.ByteSearch.{byte-inside}
 use Rattle.notification.specs.Reading.{linesIn}
@@ -84,21 +83,6 @@ module _ (s : List ℕ) (from r : ℕ) (e : LineEnd s from r) where
 
   pub lines-over : length s ≤ r → linesIn (drop from s) ≡ []
   lines-over h = lines-none (drop from s) (whole-over h)
-
--- one byte more, which is no LF
-pub more-in : (s : List ℕ) (from i : ℕ) → from ≤ i → i < length s → (getD s i 0 ≡ 10 → ⊥)
-    → every inLine (take (i - from) (drop from s)) ≡ true → every inLine (take (i + 1 - from) (drop from s)) ≡ true
-more-in s from i a h f e =
-    let n : i + 1 - from ≡ suc (i - from) = omega arith in
-    let l : i - from < length (drop from s) = rw length-drop (omega arith) in
-    let m : from + (i - from) ≡ i = omega arith in
-    let b : getD (drop from s) (i - from) 0 ≡ getD s i 0 = getD-drop from s (i - from) 0 ∙ ap (λ (j : ℕ). getD s j 0) m in
-    let g : inLine (getD s i 0) ≡ true = rw (ne-eqb (getD s i 0) 10 f) in
-    rw (n, take-suc (drop from s) (i - from) 0 l, b)
-    (every-append inLine (take (i - from) (drop from s)) (getD s i 0 ∷ []) e (and-true (inLine (getD s i 0)) true g refl))
-
-pub none-in : (s : List ℕ) (from : ℕ) → every inLine (take (from - from) (drop from s)) ≡ true
-none-in s from = let n : from - from ≡ 0 = omega arith in rw n
 
 -- the line that begins at a place ends at the first LF from there on
 before-break : (s : List ℕ) → every inLine (take (placeOf (isByte 10) s) s) ≡ true

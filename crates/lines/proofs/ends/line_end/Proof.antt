@@ -1,6 +1,6 @@
 -- The search for LF ends where the line ends.
 use borrow.Author.Needs.{needs}
-use Rattle.lines.proofs.LineEnds.{line-ends}
+use Rattle.reader.proofs.Ends.{line-ends}
 use Rattle.lines.proofs.ends.line_end.Statement.{statement}
 use Rattle.lines.proofs.ends.line_end.Tie as tie
 
