@@ -29,6 +29,25 @@ abbrev μ-loop : tie.MeasureT-loop
 μ-loop statuses₀ ids₀ keys₀ marks₀ rows₀ numbers₀ approved₀ loads₀ body₀ input₀ output₀ head₀ number₀ at₀ end₀ last₀ out₀ given₀ file₀ turns₀ statuses ids keys marks rows numbers approved loads body input output head number at end last out given file turns =
     turns
 
+-- back from a context to an earlier one
+abbrev after-output-from-read-named : tie.After-read-named Inv-loop μ-loop → tie.After-output Inv-loop μ-loop
+after-output-from-read-named c = c .before .before .before .before .before .before .before .before .before
+
+abbrev after-output-from-flush : tie.After-flush Inv-loop μ-loop → tie.After-output Inv-loop μ-loop
+after-output-from-flush c = c .before .before .before .before .before
+
+abbrev after-answer-lines : tie.After-output Inv-loop μ-loop → tie.After-answer-lines Inv-loop μ-loop
+after-answer-lines c = c .before
+
+abbrev after-answer-lines-arg9 : tie.After-answer-lines Inv-loop μ-loop → tie.After-answer-lines-arg9 Inv-loop μ-loop
+after-answer-lines-arg9 c = c .before .before .before
+
+abbrev in-loop : tie.After-answer-lines-arg9 Inv-loop μ-loop → tie.In-loop Inv-loop μ-loop
+in-loop c = c .before .before .before .before .before .before .before .before .before
+
+abbrev at-loop : tie.In-loop Inv-loop μ-loop → tie.At-loop Inv-loop μ-loop
+at-loop c = c .before
+
 unread-requires : tie.Need-unread-requires Inv-loop μ-loop
 unread-requires c κs = search needs
 
@@ -42,13 +61,13 @@ slice-reshare-prefix-answer-lines : tie.Need-slice-reshare-prefix-answer-lines I
 slice-reshare-prefix-answer-lines c = search needs
 
 slice-aggregate-answer-lines : tie.Need-slice-aggregate-answer-lines Inv-loop μ-loop
-slice-aggregate-answer-lines c = sym (length-take-le _ _ (c .before .before .before .before .before .before .before .before .before .before .loop .inv .3))
+slice-aggregate-answer-lines c = sym (length-take-le _ _ (at-loop (in-loop c) .loop .inv .3))
 
 slice-reshare-prefix-answer-lines-2 : tie.Need-slice-reshare-prefix-answer-lines-2 Inv-loop μ-loop
 slice-reshare-prefix-answer-lines-2 c = search needs
 
 slice-aggregate-answer-lines-2 : tie.Need-slice-aggregate-answer-lines-2 Inv-loop μ-loop
-slice-aggregate-answer-lines-2 c = sym (length-take-le _ _ (c .before .before .before .before .before .before .before .before .before .before .before .before .loop .inv .5))
+slice-aggregate-answer-lines-2 c = sym (length-take-le _ _ (at-loop (in-loop (c .before .before)) .loop .inv .5))
 
 answer-lines-requires : tie.Need-answer-lines-requires Inv-loop μ-loop
 answer-lines-requires c κs = search needs
@@ -57,36 +76,39 @@ enum-known-wants : tie.Need-enum-known-wants Inv-loop μ-loop
 enum-known-wants c = search needs
 
 sub-read-named : tie.Need-sub-read-named Inv-loop μ-loop
-sub-read-named c = wanted (c .before .before .before .before .before .before .answer-lines .ensures .1) (c .before .wants .given .1) .after
+sub-read-named c = wanted (after-answer-lines (c .before .before .before .before .before) .answer-lines .ensures .1) (c .before .wants .given .1) .after
 
 part-read-named-start : tie.Need-part-read-named-start Inv-loop μ-loop
-part-read-named-start c = wanted (c .before .before .before .before .before .before .before .answer-lines .ensures .1) (c .before .before .wants .given .1) .after
+part-read-named-start c = wanted (after-answer-lines (c .before .before .before .before .before .before) .answer-lines .ensures .1) (c .before .before .wants .given .1) .after
 
 part-read-named-end : tie.Need-part-read-named-end Inv-loop μ-loop
 part-read-named-end c =
-    let l = c .before .before .before .before .before .before .before .before .before .before .before .before .before .before .before .before .before .before .before .before .loop in
-    in-part _ (l .end) (l .input) (wanted (c .before .before .before .before .before .before .before .answer-lines .ensures .1) (c .before .before .wants .given .1) .inside) (l .inv .3)
+    let at-output = c .before .before .before .before .before .before in
+    let l = at-loop (in-loop (after-answer-lines-arg9 (after-answer-lines at-output))) .loop in
+    in-part _ (l .end) (l .input) (wanted (after-answer-lines at-output .answer-lines .ensures .1) (c .before .before .wants .given .1) .inside) (l .inv .3)
 
 read-named-requires : tie.Need-read-named-requires Inv-loop μ-loop
 read-named-requires c κs = search needs
 
 loop-less : tie.Need-loop-less Inv-loop μ-loop
-loop-less c = omega (arith, c .before .before .before .before .before .before .before .before .before .before .before .before .before .before .before .before .before .before .before .before .before .before .before .before .loop-test .taken)
+loop-less c = omega (arith, in-loop (after-answer-lines-arg9 (after-answer-lines (after-output-from-read-named (c .before .before)))) .loop-test .taken)
 
 loop-again : tie.Need-loop-again Inv-loop μ-loop
-loop-again c = (c .before .body .given ∙ c .before .before .before .before .before .before .before .before .before .before .before .before .before .before .before .before .before .before .before .before .before .before .before .before .before .loop .inv .0, c .before .before .before .before .before .before .before .before .before .before .before .before .before .before .before .before .before .before .before .before .before .before .before .before .before .loop .inv .1, c .before .before .before .before .before .before .before .before .before .before .before .output .given ∙ c .before .before .before .before .before .before .before .before .before .before .before .before .before .before .before .before .before .before .before .before .before .before .before .before .before .loop .inv .2, c .before .before .before .before .before .before .before .before .before .before .before .before .before .before .before .before .before .before .before .before .before .before .before .before .before .loop .inv .3, omega (arith, c .before .before .before .before .before .before .before .before .before .before .before .before .answer-lines .ensures .1 .room (c .before .before .before .before .before .before .before .before .before .before .before .before .before .before .before .before .before .before .before .before .before .before .before .before .before .loop .inv .4), c .before .before .before .before .before .before .before .before .before .before .before .output .given), c .before .before .read-named .ensures)
+loop-again c = (c .before .body .given ∙ at-loop (in-loop (after-answer-lines-arg9 (after-answer-lines (after-output-from-read-named (c .before .before))))) .loop .inv .0, at-loop (in-loop (after-answer-lines-arg9 (after-answer-lines (after-output-from-read-named (c .before .before))))) .loop .inv .1, after-output-from-read-named (c .before .before) .output .given ∙ at-loop (in-loop (after-answer-lines-arg9 (after-answer-lines (after-output-from-read-named (c .before .before))))) .loop .inv .2, at-loop (in-loop (after-answer-lines-arg9 (after-answer-lines (after-output-from-read-named (c .before .before))))) .loop .inv .3, omega (arith, after-answer-lines (after-output-from-read-named (c .before .before)) .answer-lines .ensures .1 .room (at-loop (in-loop (after-answer-lines-arg9 (after-answer-lines (after-output-from-read-named (c .before .before))))) .loop .inv .4), after-output-from-read-named (c .before .before) .output .given), c .before .before .read-named .ensures)
 
 flush-requires : tie.Need-flush-requires Inv-loop μ-loop
-flush-requires c κs = omega (arith, c .before .before .before .before .before .answer-lines .ensures .1 .room (c .before .before .before .before .before .before .before .before .before .before .before .before .before .before .before .before .before .before .loop .inv .4), c .before .before .before .before .output .given)
+flush-requires c κs =
+    let at-output = c .before .before .before .before in
+    omega (arith, after-answer-lines at-output .answer-lines .ensures .1 .room (at-loop (in-loop (after-answer-lines-arg9 (after-answer-lines at-output))) .loop .inv .4), at-output .output .given)
 
 same-length : tie.Need-same-length Inv-loop μ-loop
-same-length c = c .before .before .before .before .before .before .before .before .before .before .before .before .before .before .before .before .before .before .before .before .loop .inv .0
+same-length c = at-loop (in-loop (after-answer-lines-arg9 (after-answer-lines (after-output-from-flush (c .before))))) .loop .inv .0
 
 same-length-2 : tie.Need-same-length-2 Inv-loop μ-loop
-same-length-2 c = c .before .before .before .before .before .before .before .before .before .before .before .before .before .before .before .before .before .before .before .before .loop .inv .1
+same-length-2 c = at-loop (in-loop (after-answer-lines-arg9 (after-answer-lines (after-output-from-flush (c .before))))) .loop .inv .1
 
 same-length-3 : tie.Need-same-length-3 Inv-loop μ-loop
-same-length-3 c = c .before .before .before .before .before .before .output .given ∙ c .before .before .before .before .before .before .before .before .before .before .before .before .before .before .before .before .before .before .before .before .loop .inv .2
+same-length-3 c = after-output-from-flush (c .before) .output .given ∙ at-loop (in-loop (after-answer-lines-arg9 (after-answer-lines (after-output-from-flush (c .before))))) .loop .inv .2
 
 returns : tie.Need-returns Inv-loop μ-loop
 returns c = search needs
@@ -95,19 +117,23 @@ enum-told : tie.Need-enum-told Inv-loop μ-loop
 enum-told c = search needs
 
 loop-less-2 : tie.Need-loop-less-2 Inv-loop μ-loop
-loop-less-2 c = omega (arith, c .before .before .before .before .before .before .before .before .before .before .before .before .before .before .before .before .before .before .before .before .before .loop-test .taken)
+loop-less-2 c = omega (arith, in-loop (after-answer-lines-arg9 (after-answer-lines (after-output-from-flush (c .before .before .before)))) .loop-test .taken)
 
 loop-again-2 : tie.Need-loop-again-2 Inv-loop μ-loop
-loop-again-2 c = (c .before .before .before .before .before .before .before .before .before .before .before .before .before .before .before .before .before .before .before .before .before .before .loop .inv .0, c .before .before .before .before .before .before .before .before .before .before .before .before .before .before .before .before .before .before .before .before .before .before .loop .inv .1, c .before .before .before .before .before .before .before .before .output .given ∙ c .before .before .before .before .before .before .before .before .before .before .before .before .before .before .before .before .before .before .before .before .before .before .loop .inv .2, c .before .before .before .before .before .before .before .before .before .before .before .before .before .before .before .before .before .before .before .before .before .before .loop .inv .3, omega arith, c .before .before .before .before .before .before .before .before .before .before .before .before .before .before .before .before .before .before .before .before .before .before .loop .inv .5)
+loop-again-2 c =
+    let at-flush = c .before .before .before in
+    (at-loop (in-loop (after-answer-lines-arg9 (after-answer-lines (after-output-from-flush at-flush)))) .loop .inv .0, at-loop (in-loop (after-answer-lines-arg9 (after-answer-lines (after-output-from-flush at-flush)))) .loop .inv .1, after-output-from-flush at-flush .output .given ∙ at-loop (in-loop (after-answer-lines-arg9 (after-answer-lines (after-output-from-flush at-flush)))) .loop .inv .2, at-loop (in-loop (after-answer-lines-arg9 (after-answer-lines (after-output-from-flush at-flush)))) .loop .inv .3, omega arith, at-loop (in-loop (after-answer-lines-arg9 (after-answer-lines (after-output-from-flush at-flush)))) .loop .inv .5)
 
 same-length-4 : tie.Need-same-length-4 Inv-loop μ-loop
-same-length-4 c = c .before .before .before .before .before .before .before .before .before .before .before .before .before .before .before .before .before .before .before .before .before .before .loop .inv .0
+same-length-4 c = at-loop (in-loop (after-answer-lines-arg9 (after-answer-lines (after-output-from-flush (c .before .before .before))))) .loop .inv .0
 
 same-length-5 : tie.Need-same-length-5 Inv-loop μ-loop
-same-length-5 c = c .before .before .before .before .before .before .before .before .before .before .before .before .before .before .before .before .before .before .before .before .before .before .loop .inv .1
+same-length-5 c = at-loop (in-loop (after-answer-lines-arg9 (after-answer-lines (after-output-from-flush (c .before .before .before))))) .loop .inv .1
 
 same-length-6 : tie.Need-same-length-6 Inv-loop μ-loop
-same-length-6 c = c .before .before .before .before .before .before .before .before .output .given ∙ c .before .before .before .before .before .before .before .before .before .before .before .before .before .before .before .before .before .before .before .before .before .before .loop .inv .2
+same-length-6 c =
+    let at-flush = c .before .before .before in
+    after-output-from-flush at-flush .output .given ∙ at-loop (in-loop (after-answer-lines-arg9 (after-answer-lines (after-output-from-flush at-flush)))) .loop .inv .2
 
 returns-2 : tie.Need-returns-2 Inv-loop μ-loop
 returns-2 c = search needs
@@ -116,22 +142,26 @@ next-block-requires : tie.Need-next-block-requires Inv-loop μ-loop
 next-block-requires c κs = search needs
 
 same-length-7 : tie.Need-same-length-7 Inv-loop μ-loop
-same-length-7 c = c .before .before .before .before .before .before .before .before .before .before .before .before .before .before .before .before .before .before .before .before .before .before .before .before .before .before .before .loop .inv .0
+same-length-7 c = at-loop (in-loop (after-answer-lines-arg9 (after-answer-lines (after-output-from-flush (c .before .before .before .before .before .before .before .before))))) .loop .inv .0
 
 same-length-8 : tie.Need-same-length-8 Inv-loop μ-loop
-same-length-8 c = c .before .before .input2 .given ∙ c .before .before .before .before .before .before .before .before .before .before .before .before .before .before .before .before .before .before .before .before .before .before .before .before .before .before .before .loop .inv .1
+same-length-8 c = c .before .before .input2 .given ∙ at-loop (in-loop (after-answer-lines-arg9 (after-answer-lines (after-output-from-flush (c .before .before .before .before .before .before .before .before))))) .loop .inv .1
 
 same-length-9 : tie.Need-same-length-9 Inv-loop μ-loop
-same-length-9 c = c .before .before .before .before .before .before .before .before .before .before .before .before .before .output .given ∙ c .before .before .before .before .before .before .before .before .before .before .before .before .before .before .before .before .before .before .before .before .before .before .before .before .before .before .before .loop .inv .2
+same-length-9 c =
+    let at-flush = c .before .before .before .before .before .before .before .before in
+    after-output-from-flush at-flush .output .given ∙ at-loop (in-loop (after-answer-lines-arg9 (after-answer-lines (after-output-from-flush at-flush)))) .loop .inv .2
 
 returns-3 : tie.Need-returns-3 Inv-loop μ-loop
 returns-3 c = search needs
 
 loop-less-3 : tie.Need-loop-less-3 Inv-loop μ-loop
-loop-less-3 c = omega (arith, c .before .before .before .before .before .before .before .before .before .before .before .before .before .before .before .before .before .before .before .before .before .before .before .before .before .before .loop-test .taken)
+loop-less-3 c = omega (arith, in-loop (after-answer-lines-arg9 (after-answer-lines (after-output-from-flush (c .before .before .before .before .before .before .before .before)))) .loop-test .taken)
 
 loop-again-3 : tie.Need-loop-again-3 Inv-loop μ-loop
-loop-again-3 c = (c .before .before .before .before .before .before .before .before .before .before .before .before .before .before .before .before .before .before .before .before .before .before .before .before .before .before .before .loop .inv .0, c .before .before .input2 .given ∙ c .before .before .before .before .before .before .before .before .before .before .before .before .before .before .before .before .before .before .before .before .before .before .before .before .before .before .before .loop .inv .1, c .before .before .before .before .before .before .before .before .before .before .before .before .before .output .given ∙ c .before .before .before .before .before .before .before .before .before .before .before .before .before .before .before .before .before .before .before .before .before .before .before .before .before .before .before .loop .inv .2, omega (arith, c .before .before .before .next-block .ensures, c .before .before .input2 .given), omega arith, c .before .before .before .before .before .before .before .before .before .before .before .before .before .before .before .before .before .before .before .before .before .before .before .before .before .before .before .loop .inv .5)
+loop-again-3 c =
+    let at-flush = c .before .before .before .before .before .before .before .before in
+    (at-loop (in-loop (after-answer-lines-arg9 (after-answer-lines (after-output-from-flush at-flush)))) .loop .inv .0, c .before .before .input2 .given ∙ at-loop (in-loop (after-answer-lines-arg9 (after-answer-lines (after-output-from-flush at-flush)))) .loop .inv .1, after-output-from-flush at-flush .output .given ∙ at-loop (in-loop (after-answer-lines-arg9 (after-answer-lines (after-output-from-flush at-flush)))) .loop .inv .2, omega (arith, c .before .before .before .next-block .ensures, c .before .before .input2 .given), omega arith, at-loop (in-loop (after-answer-lines-arg9 (after-answer-lines (after-output-from-flush at-flush)))) .loop .inv .5)
 
 same-length-10 : tie.Need-same-length-10 Inv-loop μ-loop
 same-length-10 c = search needs
