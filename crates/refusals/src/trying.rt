@@ -7,12 +7,6 @@ use crate::StateRefusal;
 use crate::Verdict;
 
 // A refusal whose place isn't named.
-pub fn by_input(f: InputRefusal) -> Refusal
-    ensures { λ r. ⌜ r ≡ input f ⌝ }
-{
-    Refusal::Input(f, 0)
-}
-
 pub fn by_state(f: StateRefusal) -> Refusal
     ensures { λ r. ⌜ r ≡ state f ⌝ }
 {
