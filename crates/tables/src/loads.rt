@@ -15,7 +15,7 @@ use lists::numbers::wide;
 // The places for loads.
 pub const LOADS: u32 = 64;
 
-// Where a load stands.
+// Where a load or a record stands.
 pub enum Found {
     At(u32),
     Nothing,
@@ -68,7 +68,7 @@ pub fn last_of(keys: &[u32; 64], n: u32, number: u32) -> Found
     Found::Nothing
 }
 
-// Whether a load was found.
+// Whether one was found.
 pub fn is_at(at: Found) -> bool
     ensures { λ r. ⌜ r ≡ isAt at ⌝ }
 {
