@@ -1,9 +1,5 @@
 // Damaged names and bodies: a text with a piece in the place of a part of it.
-
-// A byte of a text, 0 past its end.
-fn byte_at(text: &[u8], place: usize) -> u8 {
-    if place < text.len() { text[place] } else { 0 }
-}
+use lists::bytes::byte_at;
 
 // Puts a byte at a place, if there is such a place.
 fn set_at(to: &mut [u8], place: usize, byte: u8) {

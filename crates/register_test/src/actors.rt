@@ -1,17 +1,7 @@
 // The actors: a letter in a scenario stands for a code.
 use crate::printing::put;
-use crate::words::byte_at;
-
-// Sixteen bytes of a text.
-fn sixteen(text: &[u8]) -> [u8; 16] {
-    let mut code = [0u8; 16];
-    let mut i: usize = 0;
-    while i < 16 {
-        code[i] = byte_at(text, i);
-        i += 1;
-    }
-    code
-}
+use lists::bytes::byte_at;
+use notification::forms::sixteen;
 
 // The code of an actor by its letter, from A to I: the letter stands in it, and it ends with its check character.
 pub(crate) fn code_of(word: &[u8]) -> [u8; 16] {

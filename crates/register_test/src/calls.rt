@@ -3,12 +3,12 @@ use crate::actors::code_of;
 use crate::files::file_of;
 use crate::powers::first_of;
 use crate::powers::load_of;
-use crate::words::byte_at;
 use crate::words::date;
 use crate::words::number;
 use crate::words::part;
 use crate::words::rest;
 use crate::words::word;
+use lists::bytes::byte_at;
 use register::Head;
 use register::Reply;
 

@@ -1,9 +1,9 @@
 // The file that a line says: its name and its body.
 use crate::powers::noted;
 use crate::powers::profile_of;
-use crate::words::byte_at;
 use crate::words::rest;
 use crate::words::word;
+use lists::bytes::byte_at;
 use notification::Notification;
 use notification::Written;
 use writer::writing::write_file;

@@ -1,6 +1,5 @@
 // Powers and keys, from the words of a line.
 use crate::actors::code_of;
-use crate::words::byte_at;
 use crate::words::date;
 use crate::words::number;
 use crate::words::rest;
@@ -8,6 +7,7 @@ use crate::words::word;
 use calendar::steps_of;
 use notification::Key;
 use notification::Notification;
+use notification::forms::six;
 
 // One power at each step below a turn, and another from the turn on.
 pub(crate) struct Profile {
@@ -95,17 +95,6 @@ pub(crate) fn first_of(powers: &[u32], n: u32) -> &[u32] {
         return &powers[0..until];
     }
     powers
-}
-
-// Six bytes of a category.
-fn six(word: &[u8]) -> [u8; 6] {
-    let mut category = [0u8; 6];
-    let mut i: usize = 0;
-    while i < 6 {
-        category[i] = byte_at(word, i);
-        i += 1;
-    }
-    category
 }
 
 // The key of a file: ceder, acquirer, category and date.

@@ -3,9 +3,9 @@ use crate::calls::call;
 use crate::printing::put;
 use crate::printing::put_answer;
 use crate::questions::ask;
-use crate::words::byte_at;
 use crate::words::line_of;
 use crate::words::lines_in;
+use lists::bytes::byte_at;
 use register::Head;
 
 // Whether a line's first letter says a call that may change the register.

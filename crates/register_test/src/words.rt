@@ -1,11 +1,7 @@
 // A scenario's text: its lines, and the words, numbers and dates of a line.
 use calendar::DAYS;
 use calendar::Day;
-
-// A byte of a text, 0 past its end.
-pub(crate) fn byte_at(text: &[u8], place: usize) -> u8 {
-    if place < text.len() { text[place] } else { 0 }
-}
+use lists::bytes::byte_from;
 
 // The part of a text from one place until another, where the text has such places.
 pub(crate) fn part(text: &[u8], from: usize, until: usize) -> &[u8] {
@@ -15,18 +11,6 @@ pub(crate) fn part(text: &[u8], from: usize, until: usize) -> &[u8] {
         }
     }
     text
-}
-
-// The first place of a byte from a place on, or the text's length.
-fn place_of(text: &[u8], from: usize, byte: u8) -> usize {
-    let mut i = from;
-    while i < text.len() {
-        if text[i] == byte {
-            return i;
-        }
-        i += 1;
-    }
-    text.len()
 }
 
 // The place after one, if there is such a place.
@@ -39,7 +23,7 @@ fn start_of(text: &[u8], piece: u32, by: u8) -> usize {
     let mut at: usize = 0;
     let mut k: u32 = 0;
     while k < piece {
-        at = after(place_of(text, at, by), text.len());
+        at = after(byte_from(text, at, by), text.len());
         k += 1;
     }
     at
@@ -48,13 +32,13 @@ fn start_of(text: &[u8], piece: u32, by: u8) -> usize {
 // A line of a text.
 pub(crate) fn line_of(text: &[u8], n: u32) -> &[u8] {
     let from = start_of(text, n, b'\n');
-    part(text, from, place_of(text, from, b'\n'))
+    part(text, from, byte_from(text, from, b'\n'))
 }
 
 // A word of a line, or nothing past the last one.
 pub(crate) fn word(line: &[u8], n: u32) -> &[u8] {
     let from = start_of(line, n, b' ');
-    part(line, from, place_of(line, from, b' '))
+    part(line, from, byte_from(line, from, b' '))
 }
 
 // A line from a word on.

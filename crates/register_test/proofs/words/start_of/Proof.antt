@@ -13,8 +13,8 @@ abbrev μ-loop : tie.MeasureT-loop
 loop-holds : tie.Need-loop-holds Inv-loop μ-loop
 loop-holds c = search needs
 
-place-of-requires : tie.Need-place-of-requires Inv-loop μ-loop
-place-of-requires c κs = search needs
+byte-from-requires : tie.Need-byte-from-requires Inv-loop μ-loop
+byte-from-requires c κs = search needs
 
 after-requires : tie.Need-after-requires Inv-loop μ-loop
 after-requires c κs = search needs
@@ -38,7 +38,7 @@ start-of-spec =
     Inv-loop
     μ-loop
     loop-holds
-    place-of-requires
+    byte-from-requires
     after-requires
     add-k
     loop-less
