@@ -3,6 +3,7 @@ pub mod Tests
 pub mod Below
 pub mod ByteSearch
 pub mod Searches
+pub mod Digits
 pub mod Parts
 pub mod All
 pub mod Sums

@@ -7,32 +7,14 @@ use lib.Dec.{ltb, eqb}
 use lib.ListN.{length, getD, take, length-take, List·getD-eq-default}
 use lib.Seq.{ext-getD, getD-take}
 use borrow.Author.Tests.{eqb-true, eqb-false, eq-eqb, ne-eqb, ltb-true, ltb-false, lt-ltb, le-ltb}
+use Rattle.lists.specs.Digits.{digitValue}
 use Rattle.lists.proofs.Tests.{by-test}
+use Rattle.lists.proofs.Digits.{value-byte, digit-value}
 use Rattle.notification.specs.Forms.{digits, powerEnd}
 use Rattle.notification.specs.Writing.{powerText}
-use Rattle.reader.specs.Walking.{digitValue, leadingPower}
+use Rattle.reader.specs.Walking.{leadingPower}
 use Rattle.reader.specs.declared.power.Power.{Power}
 use Rattle.reader.specs.declared.power.Power.the-variants.{Is, Not}
-
--- ---- a digit
-
-pub value-below : (b : ℕ) → b < 48 → b + 4294967248 ≡ digitValue b
-unfolding digitValue
-value-below b h = rw (lt-ltb b 48 h)
-
-pub value-from : (b : ℕ) → 48 ≤ b → b - 48 ≡ digitValue b
-unfolding digitValue
-value-from b h = rw (le-ltb b 48 h)
-
--- a value of a digit comes from its byte
-value-byte : (b : ℕ) → digitValue b ≤ 9 → b ≡ 48 + digitValue b
-value-byte b h =
-    by-test (ltb b 48)
-    (λ t. absurd (omega (arith, value-below b (ltb-true b 48 t))))
-    (λ t. omega (arith, value-from b (ltb-false b 48 t), ltb-false b 48 t))
-
-digit-value : (d : ℕ) → d < 10 → digitValue (48 + d) ≡ d
-digit-value d h = let e = value-from (48 + d) (omega arith) in omega arith
 
 -- ---- the ways through five bytes, as a reader goes them
 

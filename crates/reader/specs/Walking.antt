@@ -6,6 +6,7 @@ use Prim.Native.Nat.{ℕ, _+_, _-_, _*_, _/_, _%_, _<_, _≤_}
 use lib.Dec.{leb, ltb, eqb}
 use lib.ListN.{length, getD, take, drop}
 use Rattle.lists.specs.Searches.{every, same}
+use Rattle.lists.specs.Digits.{digitValue}
 use Rattle.calendar.specs.Steps.{plainSteps}
 use Rattle.calendar.specs.Labels.{turnOf}
 use Rattle.notification.specs.Reading.{hasLabels, restOf, powerValue, isPower}
@@ -17,10 +18,6 @@ use Rattle.reader.specs.declared.tally.LinePower.the-variants.{Gives, No
 -- a text begins with another
 unfoldable pub startsWith : List ℕ → List ℕ → Bool
 startsWith t s = same (take (length t) s) t
-
--- what a digit stands for, and more than 9 where a byte is no digit
-unfoldable pub digitValue : ℕ → ℕ
-digitValue b = cond (ltb b 48) (b + 4294967248) (b - 48)
 
 -- the power and `;` that five bytes begin with: one digit, or up to four that begin with no 0
 unfoldable pub leadingPower : ℕ → ℕ → ℕ → ℕ → ℕ → PowerRead

@@ -2,23 +2,14 @@
 ghost use mathlib.Core.Path.{_≡_};
 ghost use Prim.Native.Nat.{_+_, _≤_};
 ghost use lib.ListN.{length, getD};
-ghost use Rattle.reader.specs.Walking.{digitValue, leadingPower};
+ghost use Rattle.reader.specs.Walking.{leadingPower};
 use lists::bytes::byte_at;
+use lists::numbers::digit_value;
 
 // What bytes begin with: a power and `;`, with how many bytes these are, or no power.
 pub enum Power {
     Is(u16, usize),
     Not,
-}
-
-// What a digit stands for, and more than 9 where a byte is no digit.
-fn digit_value(b: u8) -> u32
-    ensures { λ r. ⌜ r ≡ digitValue b ⌝ }
-{
-    if b < b'0' {
-        return b as u32 + 4294967248;
-    }
-    b as u32 - b'0' as u32
 }
 
 // The power and `;` that five bytes begin with: one digit, or up to four that begin with no 0.

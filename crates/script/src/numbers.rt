@@ -6,6 +6,7 @@ ghost use lib.ListN.{length};
 ghost use Rattle.script.specs.Fields.{fieldsFrom, numberIn};
 ghost use Rattle.script.specs.Walking.{Spelt, NumberRead, countIn};
 use crate::fields::field_end;
+use lists::numbers::digit_value;
 
 // The least number that has more than five digits: what stands for a text that is no number.
 pub(crate) const NUMBER_END: u32 = 100000;
@@ -66,16 +67,6 @@ pub(crate) fn parted_number(line: &[u8], from: usize) -> Numeral
         value,
         end,
     }
-}
-
-// What a digit stands for, and more than 9 where a byte is no digit.
-fn digit_value(b: u8) -> u32
-    ensures { λ r. ⌜ (r ≤ 9 → r + 48 ≡ b) ⌝ }
-{
-    if b < b'0' {
-        return b as u32 + 4294967248;
-    }
-    b as u32 - b'0' as u32
 }
 
 // The field that the digits before a place are, where a comma stands there.

@@ -1,5 +1,6 @@
 -- Digit after digit: the bytes so far are a number, and its field ends where a comma does.
 use borrow.Author.Needs.{needs}
+use Rattle.lists.proofs.Digits.{value-stands}
 use mathlib.Core.Path.{_≡_}
 use mathlib.Core.Bool.{false≢true}
 use Prim.Native.Nat.{_+_, _≤_}
@@ -43,7 +44,7 @@ ended-number-requires c κs =
     let start = e1 .before .before in
     let from = start .args .from in
     let left : from + 6 ≤ length (start .args .line .now) = omega (arith, e1 .if1 .left, start .pre) in
-    spelt-one (omega (arith, left)) (e2 .if2 .left) (e2 .before .digit-value .ensures (e2 .if2 .left))
+    spelt-one (omega (arith, left)) (e2 .if2 .left) (value-stands (e2 .before .digit-value .ensures) (e2 .if2 .left))
 
 returns-3 : tie.Need-returns-3
 returns-3 c = c .ended-number .ensures
@@ -78,9 +79,9 @@ ended-number-requires-2 c κs =
     let start = e1 .before .before in
     let from = start .args .from in
     let left : from + 6 ≤ length (start .args .line .now) = omega (arith, e1 .if1 .left, start .pre) in
-    let first = e2 .before .digit-value .ensures (e2 .if2 .left) in
+    let first = value-stands (e2 .before .digit-value .ensures) (e2 .if2 .left) in
     let ne : getD (start .args .line .now) from 0 ≡ 48 → ⊥ = λ z. e4 .if4 .left (omega (arith, first, z)) in
-    spelt-more {i = from + 1} (spelt-one (omega (arith, left)) (e2 .if2 .left) (e2 .before .digit-value .ensures (e2 .if2 .left))) ne (omega arith) (omega arith) (omega (arith, left)) (e3 .if3 .left) (e3 .before .digit-value2 .ensures (e3 .if3 .left))
+    spelt-more {i = from + 1} (spelt-one (omega (arith, left)) (e2 .if2 .left) (value-stands (e2 .before .digit-value .ensures) (e2 .if2 .left))) ne (omega arith) (omega arith) (omega (arith, left)) (e3 .if3 .left) (value-stands (e3 .before .digit-value2 .ensures) (e3 .if3 .left))
 
 returns-5 : tie.Need-returns-5
 returns-5 c = c .ended-number2 .ensures
@@ -113,9 +114,9 @@ ended-number-requires-3 c κs =
     let start = e1 .before .before in
     let from = start .args .from in
     let left : from + 6 ≤ length (start .args .line .now) = omega (arith, e1 .if1 .left, start .pre) in
-    let first = e2 .before .digit-value .ensures (e2 .if2 .left) in
+    let first = value-stands (e2 .before .digit-value .ensures) (e2 .if2 .left) in
     let ne : getD (start .args .line .now) from 0 ≡ 48 → ⊥ = λ z. e4 .if4 .left (omega (arith, first, z)) in
-    spelt-more {i = from + 2} (spelt-more {i = from + 1} (spelt-one (omega (arith, left)) (e2 .if2 .left) (e2 .before .digit-value .ensures (e2 .if2 .left))) ne (omega arith) (omega arith) (omega (arith, left)) (e3 .if3 .left) (e3 .before .digit-value2 .ensures (e3 .if3 .left))) ne (omega arith) (omega arith) (omega (arith, left)) (e5 .if5 .left) (e5 .before .digit-value3 .ensures (e5 .if5 .left))
+    spelt-more {i = from + 2} (spelt-more {i = from + 1} (spelt-one (omega (arith, left)) (e2 .if2 .left) (value-stands (e2 .before .digit-value .ensures) (e2 .if2 .left))) ne (omega arith) (omega arith) (omega (arith, left)) (e3 .if3 .left) (value-stands (e3 .before .digit-value2 .ensures) (e3 .if3 .left))) ne (omega arith) (omega arith) (omega (arith, left)) (e5 .if5 .left) (value-stands (e5 .before .digit-value3 .ensures) (e5 .if5 .left))
 
 returns-6 : tie.Need-returns-6
 returns-6 c = c .ended-number3 .ensures
@@ -149,9 +150,9 @@ ended-number-requires-4 c κs =
     let start = e1 .before .before in
     let from = start .args .from in
     let left : from + 6 ≤ length (start .args .line .now) = omega (arith, e1 .if1 .left, start .pre) in
-    let first = e2 .before .digit-value .ensures (e2 .if2 .left) in
+    let first = value-stands (e2 .before .digit-value .ensures) (e2 .if2 .left) in
     let ne : getD (start .args .line .now) from 0 ≡ 48 → ⊥ = λ z. e4 .if4 .left (omega (arith, first, z)) in
-    spelt-more {i = from + 3} (spelt-more {i = from + 2} (spelt-more {i = from + 1} (spelt-one (omega (arith, left)) (e2 .if2 .left) (e2 .before .digit-value .ensures (e2 .if2 .left))) ne (omega arith) (omega arith) (omega (arith, left)) (e3 .if3 .left) (e3 .before .digit-value2 .ensures (e3 .if3 .left))) ne (omega arith) (omega arith) (omega (arith, left)) (e5 .if5 .left) (e5 .before .digit-value3 .ensures (e5 .if5 .left))) ne (omega arith) (omega arith) (omega (arith, left)) (e6 .if6 .left) (e6 .before .digit-value4 .ensures (e6 .if6 .left))
+    spelt-more {i = from + 3} (spelt-more {i = from + 2} (spelt-more {i = from + 1} (spelt-one (omega (arith, left)) (e2 .if2 .left) (value-stands (e2 .before .digit-value .ensures) (e2 .if2 .left))) ne (omega arith) (omega arith) (omega (arith, left)) (e3 .if3 .left) (value-stands (e3 .before .digit-value2 .ensures) (e3 .if3 .left))) ne (omega arith) (omega arith) (omega (arith, left)) (e5 .if5 .left) (value-stands (e5 .before .digit-value3 .ensures) (e5 .if5 .left))) ne (omega arith) (omega arith) (omega (arith, left)) (e6 .if6 .left) (value-stands (e6 .before .digit-value4 .ensures) (e6 .if6 .left))
 
 returns-7 : tie.Need-returns-7
 returns-7 c = c .ended-number4 .ensures
@@ -176,9 +177,9 @@ ended-number-requires-5 c κs =
     let start = e1 .before .before in
     let from = start .args .from in
     let left : from + 6 ≤ length (start .args .line .now) = omega (arith, e1 .if1 .left, start .pre) in
-    let first = e2 .before .digit-value .ensures (e2 .if2 .left) in
+    let first = value-stands (e2 .before .digit-value .ensures) (e2 .if2 .left) in
     let ne : getD (start .args .line .now) from 0 ≡ 48 → ⊥ = λ z. e4 .if4 .left (omega (arith, first, z)) in
-    spelt-more {i = from + 4} (spelt-more {i = from + 3} (spelt-more {i = from + 2} (spelt-more {i = from + 1} (spelt-one (omega (arith, left)) (e2 .if2 .left) (e2 .before .digit-value .ensures (e2 .if2 .left))) ne (omega arith) (omega arith) (omega (arith, left)) (e3 .if3 .left) (e3 .before .digit-value2 .ensures (e3 .if3 .left))) ne (omega arith) (omega arith) (omega (arith, left)) (e5 .if5 .left) (e5 .before .digit-value3 .ensures (e5 .if5 .left))) ne (omega arith) (omega arith) (omega (arith, left)) (e6 .if6 .left) (e6 .before .digit-value4 .ensures (e6 .if6 .left))) ne (omega arith) (omega arith) (omega (arith, left)) (c .if7 .left) (c .before .digit-value5 .ensures (c .if7 .left))
+    spelt-more {i = from + 4} (spelt-more {i = from + 3} (spelt-more {i = from + 2} (spelt-more {i = from + 1} (spelt-one (omega (arith, left)) (e2 .if2 .left) (value-stands (e2 .before .digit-value .ensures) (e2 .if2 .left))) ne (omega arith) (omega arith) (omega (arith, left)) (e3 .if3 .left) (value-stands (e3 .before .digit-value2 .ensures) (e3 .if3 .left))) ne (omega arith) (omega arith) (omega (arith, left)) (e5 .if5 .left) (value-stands (e5 .before .digit-value3 .ensures) (e5 .if5 .left))) ne (omega arith) (omega arith) (omega (arith, left)) (e6 .if6 .left) (value-stands (e6 .before .digit-value4 .ensures) (e6 .if6 .left))) ne (omega arith) (omega arith) (omega (arith, left)) (c .if7 .left) (value-stands (c .before .digit-value5 .ensures) (c .if7 .left))
 
 returns-8 : tie.Need-returns-8
 returns-8 c = c .ended-number5 .ensures

@@ -1,8 +1,8 @@
 -- A byte below the digits, or not.
 use borrow.Author.Needs.{needs}
-use Rattle.reader.proofs.Figures.{value-below, value-from}
-use Rattle.reader.proofs.power.digit_value.Statement.{statement}
-use Rattle.reader.proofs.power.digit_value.Tie as tie
+use Rattle.lists.proofs.Digits.{value-below, value-from}
+use Rattle.lists.proofs.numbers.digit_value.Statement.{statement}
+use Rattle.lists.proofs.numbers.digit_value.Tie as tie
 
 add-result : tie.Need-add-result
 add-result c = search needs
