@@ -4,8 +4,6 @@ use Rattle.refusals.specs.Numbers.{numberOf}
 use borrow.Author.Needs.{needs}
 use Rattle.refusals.proofs.number_of.Statement.{statement}
 use Rattle.refusals.proofs.number_of.Tie as tie
-use Rattle.refusals.proofs.input_number.Reads as input-number-reads
-use Rattle.refusals.proofs.state_number.Reads as state-number-reads
 
 enum-known-r : tie.Need-enum-known-r
 enum-known-r c = search needs

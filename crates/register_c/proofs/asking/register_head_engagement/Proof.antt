@@ -3,10 +3,6 @@ use Rattle.answers.specs.Values.{saidEngaged}
 use borrow.Author.Needs.{needs}
 use Rattle.register_c.proofs.asking.register_head_engagement.Statement.{statement}
 use Rattle.register_c.proofs.asking.register_head_engagement.Tie as tie
-use Rattle.register_c.proofs.asking.register_head_engagement.Reads as reads
-use Rattle.register_c.proofs.asking.register_head_engagement.Lts as lts
-use Rattle.answers.proofs.of_engaged.Reads as of-engaged-reads
-use Rattle.register.proofs.Head.engagement.Reads as engagement-reads
 
 engagement-requires : tie.Need-engagement-requires
 engagement-requires c κs = search needs

@@ -3,10 +3,6 @@ use Rattle.answers.specs.Values.{saidListed}
 use borrow.Author.Needs.{needs}
 use Rattle.register_c.proofs.asking.register_head_history.Statement.{statement}
 use Rattle.register_c.proofs.asking.register_head_history.Tie as tie
-use Rattle.register_c.proofs.asking.register_head_history.Reads as reads
-use Rattle.register_c.proofs.asking.register_head_history.Lts as lts
-use Rattle.answers.proofs.of_listed.Reads as of-listed-reads
-use Rattle.register.proofs.Head.history.Reads as history-reads
 
 history-requires : tie.Need-history-requires
 history-requires c κs = search needs

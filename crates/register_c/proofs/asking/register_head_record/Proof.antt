@@ -3,10 +3,6 @@ use Rattle.register_c.specs.Faces.{flatShown}
 use borrow.Author.Needs.{needs}
 use Rattle.register_c.proofs.asking.register_head_record.Statement.{statement}
 use Rattle.register_c.proofs.asking.register_head_record.Tie as tie
-use Rattle.register_c.proofs.asking.register_head_record.Reads as reads
-use Rattle.register_c.proofs.asking.register_head_record.Lts as lts
-use Rattle.register.proofs.Head.record.Reads as record-reads
-use Rattle.register_c.proofs.asking.flat.Reads as flat-reads
 
 record-requires : tie.Need-record-requires
 record-requires c κs = search needs

@@ -2,10 +2,6 @@ use Rattle.register.proofs.Telling.{tells-done}
 use borrow.Author.Needs.{needs}
 use Rattle.register_c.proofs.calls.register_head_advance.Statement.{statement}
 use Rattle.register_c.proofs.calls.register_head_advance.Tie as tie
-use Rattle.register_c.proofs.calls.register_head_advance.Reads as reads
-use Rattle.register_c.proofs.calls.register_head_advance.Lts as lts
-use Rattle.register.proofs.Head.advance.Reads as advance-reads
-use Rattle.register.proofs.turning.turned.Reads as turned-reads
 
 advance-requires : tie.Need-advance-requires
 advance-requires c κs = search needs

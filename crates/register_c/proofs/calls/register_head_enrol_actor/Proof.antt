@@ -2,10 +2,6 @@ use Rattle.register.proofs.Telling.{tells-done}
 use borrow.Author.Needs.{needs}
 use Rattle.register_c.proofs.calls.register_head_enrol_actor.Statement.{statement}
 use Rattle.register_c.proofs.calls.register_head_enrol_actor.Tie as tie
-use Rattle.register_c.proofs.calls.register_head_enrol_actor.Reads as reads
-use Rattle.register_c.proofs.calls.register_head_enrol_actor.Lts as lts
-use Rattle.register.proofs.Head.enrol_actor.Reads as enrol-actor-reads
-use Rattle.register.proofs.turning.turned.Reads as turned-reads
 
 enrol-actor-requires : tie.Need-enrol-actor-requires
 enrol-actor-requires c κs = search needs

@@ -2,10 +2,6 @@ use Rattle.register.proofs.Telling.{tells-done}
 use borrow.Author.Needs.{needs}
 use Rattle.register_c.proofs.calls.register_head_enrol_category.Statement.{statement}
 use Rattle.register_c.proofs.calls.register_head_enrol_category.Tie as tie
-use Rattle.register_c.proofs.calls.register_head_enrol_category.Reads as reads
-use Rattle.register_c.proofs.calls.register_head_enrol_category.Lts as lts
-use Rattle.register.proofs.Head.enrol_category.Reads as enrol-category-reads
-use Rattle.register.proofs.turning.turned.Reads as turned-reads
 
 enrol-category-requires : tie.Need-enrol-category-requires
 enrol-category-requires c κs = search needs

@@ -2,10 +2,6 @@ use Rattle.register.proofs.Telling.{tells-done}
 use borrow.Author.Needs.{needs}
 use Rattle.register_c.proofs.calls.register_head_file.Statement.{statement}
 use Rattle.register_c.proofs.calls.register_head_file.Tie as tie
-use Rattle.register_c.proofs.calls.register_head_file.Reads as reads
-use Rattle.register_c.proofs.calls.register_head_file.Lts as lts
-use Rattle.register.proofs.Head.file.Reads as file-reads
-use Rattle.register.proofs.turning.turned.Reads as turned-reads
 
 file-requires : tie.Need-file-requires
 file-requires c κs = search needs

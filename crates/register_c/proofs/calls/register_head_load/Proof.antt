@@ -2,10 +2,6 @@ use Rattle.register.proofs.Telling.{tells-done}
 use borrow.Author.Needs.{needs}
 use Rattle.register_c.proofs.calls.register_head_load.Statement.{statement}
 use Rattle.register_c.proofs.calls.register_head_load.Tie as tie
-use Rattle.register_c.proofs.calls.register_head_load.Reads as reads
-use Rattle.register_c.proofs.calls.register_head_load.Lts as lts
-use Rattle.register.proofs.Head.load.Reads as load-reads
-use Rattle.register.proofs.turning.turned.Reads as turned-reads
 
 load-requires : tie.Need-load-requires
 load-requires c κs = search needs

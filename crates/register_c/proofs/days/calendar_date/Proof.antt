@@ -1,9 +1,6 @@
 use borrow.Author.Needs.{needs}
 use Rattle.register_c.proofs.days.calendar_date.Statement.{statement}
 use Rattle.register_c.proofs.days.calendar_date.Tie as tie
-use Rattle.register_c.proofs.days.calendar_date.Reads as reads
-use Rattle.register_c.proofs.days.calendar_date.Lts as lts
-use Rattle.calendar.proofs.text_of.Reads as text-of-reads
 
 text-of-requires : tie.Need-text-of-requires
 text-of-requires c κs = search needs

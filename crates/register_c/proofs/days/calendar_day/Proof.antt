@@ -3,9 +3,6 @@ use Rattle.register_c.specs.Faces.{numberOfDay}
 use borrow.Author.Needs.{needs}
 use Rattle.register_c.proofs.days.calendar_day.Statement.{statement}
 use Rattle.register_c.proofs.days.calendar_day.Tie as tie
-use Rattle.register_c.proofs.days.calendar_day.Reads as reads
-use Rattle.register_c.proofs.days.calendar_day.Lts as lts
-use Rattle.calendar.proofs.day_of.Reads as day-of-reads
 
 day-of-requires : tie.Need-day-of-requires
 day-of-requires c κs = search needs

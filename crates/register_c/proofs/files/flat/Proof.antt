@@ -1,10 +1,6 @@
 use borrow.Author.Needs.{needs}
 use Rattle.register_c.proofs.files.flat.Statement.{statement}
 use Rattle.register_c.proofs.files.flat.Tie as tie
-use Rattle.register_c.proofs.files.flat.Reads as reads
-use Rattle.register_c.proofs.files.flat.Lts as lts
-use Rattle.register_c.proofs.asking.number.Reads as number-reads
-use Rattle.register_c.proofs.asking.place.Reads as place-reads
 
 number-requires : tie.Need-number-requires
 number-requires c κs = search needs

@@ -3,9 +3,6 @@ use Rattle.register_c.specs.Faces.{flatWritten}
 use borrow.Author.Needs.{needs}
 use Rattle.register_c.proofs.files.flat_written.Statement.{statement}
 use Rattle.register_c.proofs.files.flat_written.Tie as tie
-use Rattle.register_c.proofs.files.flat_written.Reads as reads
-use Rattle.register_c.proofs.files.flat_written.Lts as lts
-use Rattle.register_c.proofs.files.unwritten.Reads as unwritten-reads
 
 enum-known-x : tie.Need-enum-known-x
 enum-known-x c = search needs

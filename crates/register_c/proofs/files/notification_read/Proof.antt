@@ -1,10 +1,6 @@
 use borrow.Author.Needs.{needs}
 use Rattle.register_c.proofs.files.notification_read.Statement.{statement}
 use Rattle.register_c.proofs.files.notification_read.Tie as tie
-use Rattle.register_c.proofs.files.notification_read.Reads as reads
-use Rattle.register_c.proofs.files.notification_read.Lts as lts
-use Rattle.reader.proofs.reading.read_file.Reads as read-file-reads
-use Rattle.register_c.proofs.files.flat.Reads as flat-reads
 
 read-file-requires : tie.Need-read-file-requires
 read-file-requires c κs = search needs

@@ -1,10 +1,6 @@
 use borrow.Author.Needs.{needs}
 use Rattle.register_c.proofs.files.unwritten.Statement.{statement}
 use Rattle.register_c.proofs.files.unwritten.Tie as tie
-use Rattle.register_c.proofs.files.unwritten.Reads as reads
-use Rattle.register_c.proofs.files.unwritten.Lts as lts
-use Rattle.refusals.proofs.number_of.Reads as number-of-reads
-use Rattle.refusals.proofs.place_of.Reads as place-of-reads
 
 number-of-requires : tie.Need-number-of-requires
 number-of-requires c κs = search needs
