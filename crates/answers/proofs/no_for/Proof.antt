@@ -1,5 +1,10 @@
 -- A refusal has its number and its place.
 use borrow.Author.Needs.{needs}
+use mathlib.Core.Path.{ap₂}
+use mathlib.Core.List.{[], _∷_}
+use Prim.Native.Nat.{ℕ}
+use Rattle.answers.specs.Values.{noLetter}
+use Rattle.answers.specs.declared.Said.{Said}
 use Rattle.answers.proofs.no_for.Statement.{statement}
 use Rattle.answers.proofs.no_for.Tie as tie
 
@@ -10,7 +15,9 @@ place-of-requires : tie.Need-place-of-requires
 place-of-requires c κs = search needs
 
 returns : tie.Need-returns
-returns c = cc
+returns c =
+    let said : ℕ → ℕ → Said = λ n p. record { number = n; place = p; count = 0; letter = noLetter; values = 0 ∷ 0 ∷ 0 ∷ [] } in
+    ap₂ said (c .before .number-of .ensures) (c .place-of .ensures)
 
 pub no-for-spec : {M : Type 1} → statement M
 no-for-spec = tie.close (tie.spec number-of-requires place-of-requires returns)
