@@ -1,4 +1,5 @@
-/* Two actors exchange reserve on a long day, in the intraday too; every answer is printed. What it must print is in example.stdout. */
+/* Two actors exchange reserve on a long day, in the intraday too, after one of them has filed for the day that follows it; every
+ * answer is printed. What it must print is in example.stdout. */
 #include <stdio.h>
 #include <string.h>
 
@@ -98,6 +99,9 @@ int main(void)
     print("enrol", register_enrol_category(&state, TEXT(category)));
     load(north, day, 100, 60);
     load(south, day, 100, 0);
+    load(north, day + 1, 100, 60);
+    load(south, day + 1, 100, 0);
+    file(north, day + 1, 30);
 
     engagement(north, day, 49);
     file(north, day, 40);
@@ -110,15 +114,16 @@ int main(void)
     file(north, day, 50);
     engagement(south, day, 21);
     engagement(south, day, 22);
-    for (uint32_t id = 1; id <= 5; id++) {
+    for (uint32_t id = 1; id <= 6; id++) {
         record(north, id);
     }
+    /* By day, earliest first: the record of the day after comes last. */
     register_said history = register_history(&state, TEXT(south), ids, REGISTER_RECORDS);
     print("history", history);
     for (uint32_t i = 0; history.number == 0 && i < history.values[0]; i++) {
         printf("  id %u\n", (unsigned)ids[i]);
     }
-    print("history", register_history(&state, TEXT(south), ids, 3));
+    print("history", register_history(&state, TEXT(south), ids, 4));
     file(north, day, 61);
     print("advance", register_advance(&state, day, 599));
     return 0;

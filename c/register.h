@@ -277,8 +277,8 @@ static inline register_record_shown register_record(const register_state *r, con
     return register_head_record(r->head, r->statuses, r->ids, r->keys, r->marks, r->rows, asker, asker_length, id);
 }
 
-/* Puts the ids of all records that an actor is a party to into a lent buffer, each once, the rest untouched. Values: how many they
- * are. Refusals 22, 36. */
+/* Puts the ids of all records that an actor is a party to into a lent buffer, by day, earliest first, and within a day by id, lowest
+ * first; each comes once, the rest is untouched, and so is all of it beside a refusal. Values: how many they are. Refusals 22, 36. */
 static inline register_said register_history(const register_state *r, const uint8_t *actor, size_t actor_length, uint32_t *ids,
                                              size_t ids_length)
 {

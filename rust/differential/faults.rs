@@ -5,7 +5,7 @@
 pub struct Fault {
     /// The mistake; also the name of the copy.
     pub name: &'static str,
-    /// The sentence of document 01 that it breaks.
+    /// The sentence of document 01, or of a request of document 02, that it breaks.
     pub breaks: &'static str,
     pub file: &'static str,
     /// Stands exactly once in the file.
@@ -13,7 +13,7 @@ pub struct Fault {
     pub new: &'static str,
 }
 
-pub const FAULTS: [Fault; 9] = [
+pub const FAULTS: [Fault; 13] = [
     Fault {
         name: "neutral_hour_rounded_up",
         breaks: "First counted step: floor(m/30)+2 for the clock's day",
@@ -82,5 +82,38 @@ pub const FAULTS: [Fault; 9] = [
         file: "notification.rs",
         old: "return Err(if lines == count { no(number, k + 2) } else { no(5, 0) });",
         new: "let _ = lines;\n                return Err(no(number, k + 2));",
+    },
+    Fault {
+        name: "history_in_the_order_of_filing",
+        breaks: "K1: the history runs by day",
+        file: "register.rs",
+        old: "Ok(count)",
+        new: "ids[..count].sort_unstable();\n        Ok(count)",
+    },
+    Fault {
+        name: "history_latest_day_first",
+        breaks: "K1: by day, earliest first",
+        file: "register.rs",
+        old: "Ok(count)",
+        new: "ids[..count].sort_by_key(|&id| (!self.records[id as usize - 1].day, id));\n        Ok(count)",
+    },
+    Fault {
+        name: "history_highest_id_first_within_a_day",
+        breaks: "K1: within a day by id, lowest first",
+        file: "register.rs",
+        old: "Ok(count)",
+        new: "ids[..count].sort_by_key(|&id| (self.records[id as usize - 1].day, !id));\n        Ok(count)",
+    },
+    Fault {
+        name: "last_place_of_a_buffer_left_out",
+        breaks: "the ids of all such records into a lent buffer",
+        file: "register.rs",
+        old: "(ids[at], at) = (place as u16 + 1, at + 1)",
+        new: "{
+                if at + 1 < ids.len() {
+                    ids[at] = place as u16 + 1;
+                }
+                at += 1;
+            }",
     },
 ];

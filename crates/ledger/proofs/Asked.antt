@@ -4,6 +4,7 @@ use mathlib.Core.Path.{_≡_, refl}
 use mathlib.Core.List.{List, [], _∷_}
 use Prim.Native.Nat.{ℕ}
 use Rattle.lists.specs.Searches.{same, placeOf, firstFrom}
+use Rattle.lists.specs.Orders.{kept, putBy, orderBy}
 use Rattle.calendar.specs.Dates.{date, tomorrow, number, valid, monthLength, leapDays, beforeYear, beforeMonth}
 use Rattle.calendar.specs.Steps.{stepsOf, lastSunday}
 use Rattle.calendar.specs.Clocks.{firstCounted, replacesWhole, loadable}
@@ -17,7 +18,7 @@ use Rattle.ledger.specs.Call.{enrolActor}
 use Rattle.ledger.specs.Ledger.{Ledger, actorAt, categoryAt, hasLoad, loaded, approved, moved, power, acquired, ceded, gained, engagement}
 use Rattle.ledger.specs.Filing.{keyOf, cederBelow, acquirerAbove, cederAbove, acquirerBelow, samePowers, pairs, nextId, filed, partyTests, dayTests, loadTest, stepTests, placeTests}
 use Rattle.ledger.specs.Calls.{actorTests, categoryTests, loadRanged, loadTests, verdictOf, effect, stepNote, step, fileAt}
-use Rattle.ledger.specs.Asking.{engagementTests, engagedAt, askEngagement, recordAt, recordTests, notShown, askRecord, idsOf, historyTests, askHistory, historyIn}
+use Rattle.ledger.specs.Asking.{engagementTests, engagedAt, askEngagement, recordAt, recordTests, notShown, askRecord, inOrder, idsOf, historyTests, askHistory, historyIn}
 use Rattle.ledger.specs.declared.Engaged.{Engaged}
 use Rattle.ledger.specs.declared.Engaged.the-variants as Engaged
 use Rattle.ledger.specs.declared.Shown.{Shown}
@@ -64,6 +65,7 @@ pub record Answers : Type 0 where
   pub ceders-history : historyIn held first (9 ∷ 9 ∷ 9 ∷ []) ≡ 1 ∷ 2 ∷ 9 ∷ []
   pub acquirers-history : historyIn held third (9 ∷ 9 ∷ 9 ∷ []) ≡ 3 ∷ 4 ∷ 9 ∷ []
   pub both-history : historyIn held second (9 ∷ 9 ∷ 9 ∷ 9 ∷ 9 ∷ []) ≡ 1 ∷ 2 ∷ 3 ∷ 4 ∷ 9 ∷ []
+  pub whole-history : historyIn held second (9 ∷ 9 ∷ 9 ∷ 9 ∷ []) ≡ 1 ∷ 2 ∷ 3 ∷ 4 ∷ []
   pub no-history : historyIn held fourth (9 ∷ []) ≡ 9 ∷ []
   -- "and how many they are"; "36: .. a lent buffer is too short", by one id
   pub exact : (askHistory held first 2 ≡ Listed.Count 2) × (askHistory held second 4 ≡ Listed.Count 4) × (askHistory held fourth 0 ≡ Listed.Count 0)
@@ -71,7 +73,7 @@ pub record Answers : Type 0 where
   pub listed-unknown : askHistory held stranger 0 ≡ Listed.Refused (state ActorUnknown)
 
 pub answers : Answers
-unfolding eic enters noteWith note exchange three cededOn held engaged exchanged same placeOf firstFrom date tomorrow number valid monthLength leapDays beforeYear beforeMonth stepsOf lastSunday firstCounted isCode isCategory categoryText inPlaces actorAt categoryAt hasLoad loaded approved moved power acquired ceded gained engagement keyOf cederBelow acquirerAbove cederAbove acquirerBelow partyTests dayTests loadTest stepTests placeTests samePowers pairs replacesWhole nextId filed actorTests categoryTests loadRanged loadable loadTests verdictOf fileAt effect stepNote step engagementTests engagedAt askEngagement recordAt recordTests askRecord idsOf historyTests askHistory historyIn
+unfolding eic enters noteWith note exchange three cededOn held engaged exchanged same placeOf firstFrom date tomorrow number valid monthLength leapDays beforeYear beforeMonth stepsOf lastSunday firstCounted isCode isCategory categoryText inPlaces actorAt categoryAt hasLoad loaded approved moved power acquired ceded gained engagement keyOf cederBelow acquirerAbove cederAbove acquirerBelow partyTests dayTests loadTest stepTests placeTests samePowers pairs replacesWhole nextId filed actorTests categoryTests loadRanged loadable loadTests verdictOf fileAt effect stepNote step engagementTests engagedAt askEngagement recordAt recordTests askRecord kept putBy orderBy inOrder idsOf historyTests askHistory historyIn
 answers =
     record {
       engagement = (refl, refl);
@@ -89,6 +91,7 @@ answers =
       ceders-history = refl;
       acquirers-history = refl;
       both-history = refl;
+      whole-history = refl;
       no-history = refl;
       exact = (refl, refl, refl);
       too-short = (refl, refl);

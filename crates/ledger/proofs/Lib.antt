@@ -10,6 +10,7 @@ pub mod Sound
 pub mod Readings
 pub mod Events
 pub mod Whole
+pub mod History
 pub mod Once
 pub mod Examples
 pub mod Winter
@@ -18,4 +19,5 @@ pub mod Orders
 pub mod Filings
 pub mod Bounds
 pub mod Asked
+pub mod HistoryExamples
 pub mod Kept

@@ -1,10 +1,11 @@
 -- The read-only calls (document 01, "The ledger", "Calls" and "Order"): an actor's own engagement, a record by id, an actor's history.
-use mathlib.Core.Bool.{Bool, cond, not, _||_}
-use mathlib.Core.List.{List, [], _∷_, _++_}
+use mathlib.Core.Bool.{Bool, cond, not, _&&_, _||_}
+use mathlib.Core.List.{List, [], _∷_, _++_, map}
 use Prim.Native.Nat.{ℕ, _+_}
 use lib.Dec.{ltb, eqb}
 use lib.ListN.{length, getD, drop, replicate}
 use Rattle.lists.specs.Searches.{placeOf}
+use Rattle.lists.specs.Orders.{kept, orderBy}
 use Rattle.calendar.specs.Steps.{stepsOf}
 use Rattle.refusals.specs.Tests.{Test, input, state, firstMet, decide}
 use Rattle.refusals.specs.declared.Refusal.{Refusal}
@@ -100,10 +101,17 @@ askRecord l asker id =
 
 -- HISTORY: 22, 36
 
--- the ids of all records that an actor is a party to, each once; the order is left open, here the lowest first
+-- one record comes before another: "by day, earliest first, and within a day by id, lowest first" (document 02, K1)
+abbrev pub earlier : Rec → Rec → Bool
+earlier r q = ltb (r .key .day) (q .key .day) || (eqb (r .key .day) (q .key .day) && ltb (r .id) (q .id))
+
+-- all records that an actor is a party to, in that order. Records stand newest first, and the oldest is put first: those
+-- alike in day and id keep the order in which they were made
+unfoldable pub inOrder : ℕ → List Rec → List Rec
+inOrder a rs = orderBy earlier (kept (party a) rs)
+
 unfoldable pub idsOf : ℕ → List Rec → List ℕ
-idsOf a [] = []
-idsOf a (r ∷ rs) = idsOf a rs ++ cond (party a r) (r .id ∷ []) []
+idsOf a rs = map (λ r. r .id) (inOrder a rs)
 
 abbrev pub historyOf : Ledger → List ℕ → List ℕ
 historyOf l actor = idsOf (actorAt (l .actors) actor) (l .records)

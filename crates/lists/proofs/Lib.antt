@@ -8,3 +8,4 @@ pub mod Parts
 pub mod All
 pub mod Sums
 pub mod Places
+pub mod Orders

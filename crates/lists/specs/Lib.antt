@@ -1,5 +1,6 @@
--- Tests, searches and sums over lists and over the numbers below a bound.
+-- Tests, searches, sums and orders of lists and of the numbers below a bound.
 pub mod Tests
 pub mod Searches
 pub mod Digits
 pub mod Sums
+pub mod Orders

@@ -1,21 +1,20 @@
--- What one more turn of a loop over the records adds: to a test, to a sum, to the ids of an actor.
+-- What one more turn of a loop adds: to a test, to a sum, to a buffer.
 use mathlib.Core.Path.{_≡_, refl, sym, _∙_, ap}
 use mathlib.Core.Bool.{Bool, true, false, cond, _&&_}
-use mathlib.Core.List.{List, [], _∷_, _++_, append-nil, append-assoc}
-use Prim.Native.Nat.{ℕ, suc, _+_, _/_, _%_, _≤_, _<_}
+use mathlib.Core.List.{List, [], _∷_, _++_, append-assoc, map, map-append}
+use Prim.Native.Nat.{ℕ, _+_, _/_, _%_, _≤_, _<_}
 use native.Mathlib.Omega.{arith}
 use native.Mathlib.Numerals.{add-one}
-use native.Mathlib.Decide.{le-ind}
 use lib.Dec.{eqb, leb, ltb}
-use lib.ListN.{length, getD, drop, set, length-append}
-use lib.Seq.{drop-cons, set-at}
+use lib.ListN.{length, getD, drop, set, take, length-map}
+use lib.Seq.{drop-cons, set-at, take-suc, length-take-le}
 use Rattle.lists.specs.Tests.{allBelow}
 use Rattle.lists.specs.Sums.{sumTo}
 use Rattle.ledger.specs.Ledger.{movedBy}
 use Rattle.tables.specs.Tables.{Columns, recordIn}
 use Rattle.tables.specs.Passing.{inMarket}
 use Rattle.tables.proofs.Listing.{through}
-use Rattle.recording.specs.Recording.{gainedAt, givenAt, partyIn, idsBelow}
+use Rattle.recording.specs.Recording.{gainedAt, givenAt}
 
 -- ---- tests and sums
 
@@ -91,48 +90,21 @@ module _ (q : Bool) (b c m n s p : ℕ) (e : b ≡ m) (f : c ≡ n) where
   pub moved-nothing : (q && (leb b s && ltb s c)) ≡ false → 0 ≡ cond (q && (leb m s && ltb s n)) p 0
   moved-nothing t = let u : (q && (leb m s && ltb s n)) ≡ false = rw (e, f) at t in rw u
 
--- ---- the ids of an actor's records
+-- ---- a buffer
 
-module _ (keys ids : List ℕ) (a : ℕ) where
-  pub ids-add : (i : ℕ) → partyIn (getD keys i 0) a ≡ true → idsBelow keys ids (i + 1) a ≡ idsBelow keys ids i a ++ (getD ids i 0 ∷ [])
-  unfolding idsBelow
-  ids-add i t = rw (add-one i, t)
-
-  pub ids-keep : (i : ℕ) → partyIn (getD keys i 0) a ≡ false → idsBelow keys ids (i + 1) a ≡ idsBelow keys ids i a
-  unfolding idsBelow
-  ids-keep i t = rw (add-one i, t) (append-nil (idsBelow keys ids i a))
-
-  pub ids-count : (i : ℕ) → partyIn (getD keys i 0) a ≡ true → length (idsBelow keys ids (i + 1) a) ≡ length (idsBelow keys ids i a) + 1
-  ids-count i t = ap length (ids-add i t) ∙ length-append (idsBelow keys ids i a) (getD ids i 0 ∷ [])
-
-  pub ids-longer : (i : ℕ) → length (idsBelow keys ids i a) ≤ length (idsBelow keys ids (suc i) a)
-  unfolding idsBelow
-  ids-longer i =
-      omega (arith, length-append (idsBelow keys ids i a) (cond (partyIn (getD keys i 0) a) (getD ids i 0 ∷ []) []))
-
-  -- there are no more of them below a smaller bound
-  pub ids-least : (i n : ℕ) → i ≤ n → length (idsBelow keys ids i a) ≤ length (idsBelow keys ids n a)
-  ids-least i n h = le-ind (λ m. length (idsBelow keys ids i a) ≤ length (idsBelow keys ids m a)) (omega arith) step n h
-    where
-      step : (m : ℕ) → i ≤ m → length (idsBelow keys ids i a) ≤ length (idsBelow keys ids m a) →
-          length (idsBelow keys ids i a) ≤ length (idsBelow keys ids (suc m) a)
-      step m h l = omega (arith, ids-longer m)
-
-  -- a place is free while another one is to be put
-  pub ids-room : (i n room : ℕ) → i < n → length (idsBelow keys ids n a) ≤ room → partyIn (getD keys i 0) a ≡ true →
-      length (idsBelow keys ids i a) < room
-  ids-room i n room h r t = omega (arith, ids-count i t, ids-least (i + 1) n (omega arith))
-
--- one id more in a buffer that holds the ids from its beginning
+-- one number more in a buffer that holds numbers from its beginning
 pub put-next : (out old xs : List ℕ) (at v : ℕ) → at ≡ length xs → at < length old → out ≡ xs ++ drop at old →
     set out at v ≡ xs ++ (v ∷ []) ++ drop (at + 1) old
 put-next out old xs at v e h o =
     let d : out ≡ xs ++ (getD old at 0 ∷ drop (at + 1) old) = rw (o, add-one at, drop-cons old at 0 h) in
     rw (d, set-at xs (getD old at 0) (drop (at + 1) old) v at (sym e)) (sym (append-assoc xs (v ∷ []) (drop (at + 1) old)))
 
--- one record more of which the actor is a party
-pub put-turn : (keys ids out old : List ℕ) (a i at : ℕ) → partyIn (getD keys i 0) a ≡ true → at ≡ length (idsBelow keys ids i a) →
-    at < length old → out ≡ idsBelow keys ids i a ++ drop at old →
-    set out at (getD ids i 0) ≡ idsBelow keys ids (i + 1) a ++ drop (at + 1) old
-put-turn keys ids out old a i at t e h o =
-    rw (ids-add keys ids a i t) (put-next out old (idsBelow keys ids i a) at (getD ids i 0) e h o)
+-- one number more, made of the next one of a list
+pub put-made : (f : ℕ → ℕ) (xs out old : List ℕ) (i v : ℕ) → i < length xs → i < length old → v ≡ f (getD xs i 0) →
+    out ≡ map f (take i xs) ++ drop i old → set out i v ≡ map f (take (i + 1) xs) ++ drop (i + 1) old
+put-made f xs out old i v h l e o =
+    let n : i ≡ length (map f (take i xs)) = sym (length-map (take i xs) f ∙ length-take-le i xs (omega arith)) in
+    let t : take (i + 1) xs ≡ take i xs ++ (getD xs i 0 ∷ []) = rw (add-one i) (take-suc xs i 0 h) in
+    let m : map f (take (i + 1) xs) ≡ map f (take i xs) ++ (v ∷ []) =
+    ap (map f) t ∙ map-append f (take i xs) (getD xs i 0 ∷ []) ∙ ap (λ w. map f (take i xs) ++ (w ∷ [])) (sym e) in
+    put-next out old (map f (take i xs)) i v n l o ∙ ap (λ l. l ++ drop (i + 1) old) (sym m)

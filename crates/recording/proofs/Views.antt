@@ -1,7 +1,7 @@
 -- What the functions over records say of columns is what the ledger says of the records in them, the newest first.
 use mathlib.Core.Path.{_≡_, refl, sym, _∙_, ap}
 use mathlib.Core.Bool.{Bool, true, false, cond, _&&_, _||_}
-use mathlib.Core.List.{List, [], _∷_, _++_, map}
+use mathlib.Core.List.{List, map}
 use Prim.Native.Nat.{ℕ, zero, suc, _+_, _-_, _*_, _/_, _%_, _<_}
 use native.Mathlib.Omega.{arith}
 use lib.Dec.{eqb}
@@ -13,11 +13,11 @@ use Rattle.lists.proofs.Tests.{by-test, and-left, and-right}
 use Rattle.calendar.specs.declared.clock.Clock.{Clock}
 use Rattle.ledger.specs.Ledger.{moved, movedBy, acquired, ceded}
 use Rattle.ledger.specs.Filing.{answers, pairs, changed}
-use Rattle.ledger.specs.Asking.{noRecord, recordAt, idsOf}
+use Rattle.ledger.specs.Asking.{noRecord, recordAt}
 use Rattle.tables.specs.Tables.{Columns, keyFrom, downFrom, recordIn}
 use Rattle.tables.specs.Passing.{lastBelow}
 use Rattle.tables.specs.declared.loads.Found.the-variants.{At, Nothing}
-use Rattle.recording.specs.Recording.{pairsBelow, withChanges, Changed, gainedAt, givenAt, partyIn, idsBelow}
+use Rattle.recording.specs.Recording.{pairsBelow, withChanges, Changed, gainedAt, givenAt}
 use Rattle.tables.proofs.Down.{down-same, down-map, down-sum, down-at, placeIn, last-below, down-place}
 
 -- ---- category and day as one number
@@ -107,11 +107,6 @@ module _ (cols : Columns) where
       (market-same (getD (cols .keys) i 0) z d h)))
 
   -- ---- ids
-
-  pub ids-view : (n a : ℕ) → idsOf a (downFrom (recordIn cols) n) ≡ idsBelow (cols .keys) (cols .ids) n a
-  unfolding idsOf idsBelow
-  ids-view zero a = refl
-  ids-view (suc n) a = ap (λ l. l ++ cond (partyIn (getD (cols .keys) n 0) a) (getD (cols .ids) n 0 ∷ []) []) (ids-view n a)
 
   -- the place of an id among the records, the newest being 0
   place-view : (n id : ℕ) →

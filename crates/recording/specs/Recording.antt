@@ -1,7 +1,7 @@
 -- What the functions over records say of their results.
 use mathlib.Core.Path.{_≡_}
 use mathlib.Core.Bool.{Bool, false, cond, _&&_, _||_}
-use mathlib.Core.List.{List, [], _∷_, _++_}
+use mathlib.Core.List.{List, []}
 use Prim.Native.Nat.{ℕ, zero, suc, _/_, _%_, _<_}
 use lib.Dec.{eqb}
 use lib.ListN.{length, getD, set}
@@ -60,11 +60,6 @@ givenAt cols market a s i =
 -- an actor is ceder or acquirer of a key
 abbrev pub partyIn : ℕ → ℕ → Bool
 partyIn key a = eqb (key / 8 % 8) a || eqb (key % 8) a
-
--- the ids of the records below n that an actor is a party to, the lowest place first
-unfoldable pub idsBelow : List ℕ → List ℕ → ℕ → ℕ → List ℕ
-idsBelow keys ids zero a = []
-idsBelow keys ids (suc n) a = idsBelow keys ids n a ++ cond (partyIn (getD keys n 0) a) (getD ids n 0 ∷ []) []
 
 -- where a record that was found stands, or 0
 abbrev pub foundAt : Found → ℕ

@@ -26,8 +26,10 @@ use Rattle.tables.specs.Tables.{Columns, LoadColumns, actorsIn, categoriesIn, l
 use Rattle.tables.specs.Passing.{lastLoad, loadRow}
 use Rattle.tables.specs.declared.loads.Found.{Found}
 use Rattle.tables.proofs.LoadTable.{loaded-row}
-use Rattle.recording.specs.Recording.{gainedAt, givenAt, idsBelow}
-use Rattle.recording.proofs.Views.{acquired-view, ceded-view, ids-view}
+use Rattle.recording.specs.Recording.{gainedAt, givenAt}
+use Rattle.recording.specs.Ordering.{idsBelow}
+use Rattle.recording.proofs.Views.{acquired-view, ceded-view}
+use Rattle.recording.proofs.TurnNumbers.{ids-only}
 use Rattle.register.specs.declared.Head.{Head}
 use Rattle.register.specs.View.{view}
 
@@ -89,7 +91,7 @@ module _ (h : Head) (cols : Columns) (loads : LoadColumns) (actor buffer : List 
 
   history-ids : historyOf (view h cols loads) actor ≡ listed
   unfolding view recordsIn
-  history-ids = rw (← ea, ← ek) (ids-view cols k a)
+  history-ids = rw (← ea, ← ek) (ids-only cols k a)
 
   history-is : v ≡ firstMet (historyTests (view h cols loads) actor (length buffer))
   unfolding view historyTests

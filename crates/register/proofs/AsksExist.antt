@@ -8,7 +8,7 @@ use Rattle.ledger.specs.Ledger.{Ledger, actorAt, categoryAt, loadIs, loaded, mo
 use Rattle.ledger.specs.Asking.{engagementTests, engagedAt, askEngagement, recordTests, askRecord, historyOf, historyTests, askHistory, historyIn}
 use Rattle.tables.specs.Tables.{Columns, LoadColumns, columns, loadColumns, downFrom, loadIn, recordIn, actorsIn, categoriesIn, loadsIn, recordsIn}
 use Rattle.tables.proofs.Down.{down-sum}
-use Rattle.recording.proofs.Views.{ids-view}
+use Rattle.recording.proofs.TurnNumbers.{ids-only}
 use Rattle.register.specs.View.{Register, view, held}
 use Rattle.register.specs.declared.Head.{Head}
 use Rattle.register.proofs.Runs.{Engages, engages, Shows, shows, Lists, lists}
@@ -73,7 +73,7 @@ unfolding view recordsIn
 history-any h cols ls statuses marks rows ls' actor =
     let a = actorAt (actorsIn (h .actors)) actor in
     let n = min (h .records) 256 in
-    ids-view cols n a ∙ sym (ids-view (columns statuses (cols .ids) (cols .keys) marks rows) n a)
+    ids-only cols n a ∙ sym (ids-only (columns statuses (cols .ids) (cols .keys) marks rows) n a)
 
 -- count and buffer, by the history
 module _ (l m : Ledger) (actor buffer : List ℕ) (same-actors : l .actors ≡ m .actors) (same-ids : historyOf l actor ≡ historyOf m actor) where

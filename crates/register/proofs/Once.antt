@@ -13,7 +13,7 @@ use Rattle.refusals.specs.declared.Verdict.the-variants.{Pass, No}
 use Rattle.ledger.specs.Ledger.{Ledger, fresh}
 use Rattle.ledger.specs.Call.{Call}
 use Rattle.ledger.specs.Asking.{historyOf, historyTests, askHistory, historyIn}
-use Rattle.ledger.specs.Once.{rising}
+use Rattle.ledger.specs.Once.{onceUpTo}
 use Rattle.ledger.proofs.Once.{each-once}
 use Rattle.ledger.specs.declared.Answer.{Answer}
 use Rattle.ledger.specs.declared.Listed.the-variants.{Count, Refused}
@@ -39,11 +39,11 @@ listed l actor before later n e f = by-verdict (firstMet (historyTests l actor (
 pub each-once-of-calls : (start : Fresh) → Begun start → (cols : Columns) (ls : LoadColumns) (cs : List Call)
     (ys : List Answer) (t : Register) → Ran (lent (start .head) cols ls) cs ys t →
     (actor before later : List ℕ) (n : ℕ) → Lists t actor before (Count n) later →
-    rising 0 (take n later) (length (held t .records)) ≡ true
+    onceUpTo (length (held t .records)) (take n later) ≡ true
 each-once-of-calls start fresh-one cols ls cs ys t run actor before later n q =
     let p = ran-after run fresh (begun-is fresh-one .1 cols ls) in
     let e = lists-is q in
     let ids = listed (held t) actor before later n (e .0) (e .1) in
-    ap (λ is. rising 0 is (length (held t .records))) ids
-    ∙ ap (λ l. rising 0 (historyOf l actor) (length (l .records))) (p .0)
+    ap (onceUpTo (length (held t .records))) ids
+    ∙ ap (λ l. onceUpTo (length (l .records)) (historyOf l actor)) (p .0)
     ∙ each-once cs actor

@@ -90,8 +90,9 @@ impl Head {
         Engaged::Power(less(wide(row[step as usize]) + totals.gained, totals.given))
     }
 
-    // An actor's history: the ids of all records that it is a party to, into a lent buffer, and how many they are:
-    // 22, 36.
+    // An actor's history: the ids of all records that it is a party to, by day and within a day by id, into a lent
+    // buffer, and how many they are: 22, 36. No filing is for a day more than seven after the clock's: the day after
+    // those stands for the earliest of the 128 days that end with them.
     pub fn history(
         self,
         ids: &[u32; 256],
@@ -119,7 +120,8 @@ impl Head {
         if let Verdict::No(r) = v {
             return Listed::Refused(r);
         }
-        put_ids(keys, ids, n, a, out);
+        let clock = self.clock;
+        put_ids(keys, ids, n, a, clock.day % 128 + 8, out);
         Listed::Count(count)
     }
 }

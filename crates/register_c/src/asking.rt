@@ -136,7 +136,8 @@ pub extern "C" fn register_head_record(
     flat(answer)
 }
 
-// Puts the ids of all records that an actor is a party to into a lent buffer, and says how many they are.
+// Puts the ids of all records that an actor is a party to into a lent buffer, by day, earliest first, and within a day
+// by id, lowest first, and says how many they are.
 #[no_mangle]
 pub extern "C" fn register_head_history(
     head: Head,

@@ -81,7 +81,7 @@ pub enum Answer {
     },
     Power(i64),
     Shown(Box<Shown>),
-    /// The ids sorted, since their order is left open, and the rest of the buffer.
+    /// How many ids there are, and the whole buffer: the ids in their order and what stands after them.
     Ids(usize, Vec<u32>),
     No {
         number: u32,
@@ -121,10 +121,7 @@ pub fn make<S: Side>(side: &mut S, call: &Call) -> Answer {
 fn history<S: Side>(side: &S, actor: &[u8], length: usize) -> Answer {
     let mut ids = vec![UNTOUCHED; length];
     match side.history(actor, &mut ids) {
-        Ok(count) => {
-            ids[..count.min(length)].sort_unstable();
-            Answer::Ids(count, ids)
-        }
+        Ok(count) => Answer::Ids(count, ids),
         Err((number, place)) if ids.iter().any(|id| *id != UNTOUCHED) => Answer::NoButWrote { number, place },
         Err((number, place)) => Answer::No { number, place },
     }

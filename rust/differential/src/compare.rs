@@ -7,7 +7,7 @@ use peer::calendar::{day_of, steps};
 
 use crate::calls::{make, Answer, Call};
 use crate::sides::Side;
-use crate::tally::Tally;
+use crate::tally::{Listed, Tally};
 
 /// Where two sides differ.
 pub struct Difference {
@@ -18,14 +18,21 @@ pub struct Difference {
     pub right: String,
 }
 
+/// A record: its parties and its day, and its status when it was last asked for.
+struct Held {
+    ceder: Vec<u8>,
+    acquirer: Vec<u8>,
+    day: u16,
+    status: char,
+}
+
 /// What the list has accepted so far, by the left side's answers.
 #[derive(Default)]
 struct Seen {
     actors: Vec<Vec<u8>>,
     categories: Vec<Vec<u8>>,
     days: BTreeSet<u32>,
-    /// Each record's ceder, and its status when it was last asked for.
-    records: Vec<(Vec<u8>, char)>,
+    records: Vec<Held>,
 }
 
 /// A difference, unless both are the same.
@@ -50,6 +57,9 @@ pub fn run<A: Side, B: Side>(calls: &[Call], tally: &mut Tally) -> Result<(), Di
         }
         let filed = matches!(answers.0, Answer::Filed { .. });
         seen.note(call, &answers.0, tally);
+        if let Call::History { actor, length } = call {
+            tally.history(&seen.listed(actor), *length);
+        }
         same(made, answers.0, answers.1, || call.to_string())?;
         // The records are compared after each filing while they are few, and now and then when they are many.
         if filed && (seen.records.len() < 64 || seen.records.len() % 16 == 0) {
@@ -57,7 +67,7 @@ pub fn run<A: Side, B: Side>(calls: &[Call], tally: &mut Tally) -> Result<(), Di
         }
     }
     records(calls.len(), &left, &right, &mut seen, tally)?;
-    everything(calls.len(), &left, &right, &seen)
+    everything(calls.len(), &left, &right, &seen, tally)
 }
 
 impl Seen {
@@ -69,12 +79,20 @@ impl Seen {
             (Call::EnrolCategory { text }, _) => self.categories.push(text.clone()),
             (Call::Load { day, .. }, _) => self.days.extend([*day]),
             (Call::File { name, .. }, Answer::Filed { status, from, .. }) => {
-                tally.filed(day_of(&name[38..46]).map_or(0, steps), *from);
-                self.records.push((name[4..20].to_vec(), *status));
+                let day = day_of(&name[38..46]).expect("an accepted name has a date");
+                tally.filed(steps(day), *from);
+                let (ceder, acquirer) = (name[4..20].to_vec(), name[21..37].to_vec());
+                self.records.push(Held { ceder, acquirer, day, status: *status });
                 tally.change('-', *status);
             }
             _ => {}
         }
+    }
+
+    /// The records that an actor is a party to, in the order of filing.
+    fn listed(&self, actor: &[u8]) -> Vec<Listed> {
+        let mine = self.records.iter().filter(|r| r.ceder == actor || r.acquirer == actor);
+        mine.map(|r| Listed { day: r.day, status: r.status }).collect()
     }
 }
 
@@ -82,7 +100,7 @@ impl Seen {
 fn records<A: Side, B: Side>(
     made: usize, left: &A, right: &B, seen: &mut Seen, tally: &mut Tally,
 ) -> Result<(), Difference> {
-    for (id, (ceder, status)) in (1..).zip(&mut seen.records) {
+    for (id, Held { ceder, status, .. }) in (1..).zip(&mut seen.records) {
         let answer = left.record(ceder, id);
         if let Some(now) = answer.as_ref().ok().map(|shown| shown.status as char).filter(|now| now != status) {
             tally.change(*status, now);
@@ -94,7 +112,9 @@ fn records<A: Side, B: Side>(
 }
 
 /// Every engagement, every record for every asker, every history.
-fn everything<A: Side, B: Side>(made: usize, left: &A, right: &B, seen: &Seen) -> Result<(), Difference> {
+fn everything<A: Side, B: Side>(
+    made: usize, left: &A, right: &B, seen: &Seen, tally: &mut Tally,
+) -> Result<(), Difference> {
     let (nobody, none) = (b"17X000000000000-".to_vec(), b"00000C".to_vec());
     for actor in seen.actors.iter().chain([&nobody]) {
         let text = || actor.escape_ascii().to_string();
@@ -113,13 +133,12 @@ fn everything<A: Side, B: Side>(made: usize, left: &A, right: &B, seen: &Seen) -
             let answers = (left.record(actor, id), right.record(actor, id));
             same(made, answers.0, answers.1, || format!("record {id} for {}", text()))?;
         }
-        let mut lengths = vec![0, 1, 256, 300];
-        if let Ok(count) = left.history(actor, &mut [0; 256]) {
-            lengths.extend([count.saturating_sub(1), count, count + 1]);
-        }
-        for length in lengths {
+        let listed = seen.listed(actor);
+        let count = listed.len();
+        for length in BTreeSet::from([0, 1, count.saturating_sub(1), count, count + 1, 256, 300]) {
             let call = Call::History { actor: actor.clone(), length };
             let answers = (make(&mut left.clone(), &call), make(&mut right.clone(), &call));
+            tally.history(&listed, length);
             same(made, answers.0, answers.1, || call.to_string())?;
         }
     }

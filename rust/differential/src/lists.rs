@@ -75,6 +75,7 @@ pub fn list(random: &mut Random, number: u64) -> Vec<Call> {
         7 => scene.all_records(start),
         17 => scene.all_loads(start),
         27 => scene.all_enrolled(start),
+        37 => scene.weeks_apart(start),
         _ => scene.ordinary(start),
     }
     scene.calls
@@ -97,15 +98,17 @@ impl Scene<'_> {
         }
     }
 
-    /// More filings than there are places for records; nearly all of them fit.
+    /// More filings than there are places for records; nearly all of them fit. Where two actors file for eight days, each of them has
+    /// them all in its history.
     fn all_records(&mut self, start: u32) {
         self.levels = &TINY;
-        self.begin(start.min(LAST_DAY - 3), 3, 1);
-        self.calls.iter_mut().for_each(|call| {
-            if let Call::EnrolActor { first, last, .. } = call {
-                (*first, *last) = (0, LAST_DAY);
-            }
-        });
+        if self.random.one_in(2) {
+            self.begin(start.min(LAST_DAY - 8), 2, 1);
+            self.days = (1..=8).map(|i| self.day + i).collect();
+        } else {
+            self.begin(start.min(LAST_DAY - 3), 3, 1);
+        }
+        self.lasting_contracts();
         let category = self.categories[0].clone();
         for code in self.codes.clone() {
             for day in self.days.clone() {
@@ -119,6 +122,25 @@ impl Scene<'_> {
                 1 => self.question(),
                 _ => self.filing(),
             }
+        }
+    }
+
+    /// Filings for a few days, then for days that are weeks after them.
+    fn weeks_apart(&mut self, start: u32) {
+        self.begin(start.min(LAST_DAY - 280), 3, 1);
+        self.lasting_contracts();
+        let (near, weeks) = (self.days.clone(), *self.random.pick(&[28, 63, 64, 121, 128, 256]));
+        let far: Vec<u32> = near.iter().map(|day| day + weeks + self.random.below(2) as u32).collect();
+        self.days = [near.clone(), far.clone()].concat();
+        self.load_all();
+        for days in [near, far] {
+            let (day, minute) = (days[0] - 1, self.random.below(1440) as u32);
+            self.advance(day, minute);
+            (self.days, self.filings) = (days, Vec::new());
+            for _ in 0..16 {
+                self.filing();
+            }
+            self.question();
         }
     }
 
@@ -173,6 +195,15 @@ impl Scene<'_> {
             self.categories.push(category.to_vec());
             self.calls.push(Call::EnrolCategory { text: category.to_vec() });
         }
+    }
+
+    /// Every actor that was named to be enrolled has a contract for all days.
+    fn lasting_contracts(&mut self) {
+        self.calls.iter_mut().for_each(|call| {
+            if let Call::EnrolActor { first, last, .. } = call {
+                (*first, *last) = (0, LAST_DAY);
+            }
+        });
     }
 
     fn load_all(&mut self) {

@@ -2,7 +2,8 @@
 //! history. Then the test of the test: each faulty copy of the peer must be told from the register by the same lists.
 //!
 //! `LISTS` and `SEED` set how many lists there are and which; the seed of a run is printed. Status 1 says that something differs, that
-//! a refusal or a change of a status was never met, or that a fault was not found; the last two are asked of long runs only.
+//! a refusal, a change of a status or a kind of history was never met, or that a fault was not found; the last two are asked of long
+//! runs only.
 
 mod calls;
 mod compare;
@@ -34,7 +35,7 @@ mod faulty {
 }
 
 const LISTS: u64 = 8000;
-/// So many lists meet every refusal and every fault.
+/// So many lists meet every refusal, every kind of history and every fault.
 const ENOUGH: u64 = 2000;
 
 fn setting(name: &str, otherwise: u64) -> u64 {
@@ -88,7 +89,8 @@ macro_rules! faults {
 faults!(
     neutral_hour_rounded_up only_32_and_33_on_a_replacement pairs_counted_steps_only opposite_keys_netted
     old_power_subtracted_twice updated_goes_on_counting own_created_not_deleted place_from_the_first_counted_step
-    lines_counted_after_the_fault
+    lines_counted_after_the_fault history_in_the_order_of_filing history_latest_day_first
+    history_highest_id_first_within_a_day last_place_of_a_buffer_left_out
 );
 
 fn failed(what: impl Display) -> ExitCode {

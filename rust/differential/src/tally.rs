@@ -1,6 +1,8 @@
-//! How often each answer, each refusal and each change of a status was met.
+//! How often each answer, each refusal, each change of a status and each kind of history was met.
 
-use std::collections::BTreeMap;
+use std::collections::{BTreeMap, BTreeSet};
+
+use peer::calendar::steps;
 
 use crate::calls::{Answer, Kind};
 
@@ -24,12 +26,58 @@ const DAYS: [(usize, bool); 6] = [(46, true), (46, false), (48, true), (48, fals
 /// The changes that rules 1 to 3 make; a record is born from nothing, here '-'.
 const CHANGES: [(char, char); 6] = [('-', 'C'), ('-', 'V'), ('C', 'S'), ('C', 'A'), ('V', 'O'), ('V', 'P')];
 
+/// A record of an actor whose history is asked for.
+pub struct Listed {
+    pub day: u16,
+    pub status: char,
+}
+
+/// What a history of one record or more can hold, by the records in the order of filing.
+const HISTORIES: [(&str, fn(&[Listed]) -> bool); 10] = [
+    ("several days", |mine| days(mine).len() > 1),
+    ("eight days", |mine| days(mine).len() == 8),
+    ("days weeks apart", |mine| days(mine).last() > days(mine).first().map(|day| day + 21).as_ref()),
+    ("not the order of filing", |mine| mine.windows(2).any(|two| two[1].day < two[0].day)),
+    ("several in one day", |mine| days(mine).len() < mine.len()),
+    ("a deleted record in between", |mine| between(mine, 'S')),
+    ("an obsolete record in between", |mine| between(mine, 'O')),
+    ("a short day among others", |mine| among_others(mine, 46)),
+    ("a long day among others", |mine| among_others(mine, 50)),
+    ("255 records or more, of eight days", |mine| mine.len() > 254 && days(mine).len() == 8),
+];
+
+fn days(mine: &[Listed]) -> BTreeSet<u16> {
+    mine.iter().map(|r| r.day).collect()
+}
+
+/// A record of the status has others filed before and after it.
+fn between(mine: &[Listed], status: char) -> bool {
+    mine.len() > 2 && mine[1..mine.len() - 1].iter().any(|r| r.status == status)
+}
+
+/// Some days are of so many steps, and some aren't.
+fn among_others(mine: &[Listed], count: usize) -> bool {
+    [true, false].iter().all(|is| mine.iter().any(|r| (steps(r.day) == count) == *is))
+}
+
+/// How long a lent buffer can be, beside how many ids there are to list.
+const BUFFERS: [(&str, fn(usize, usize) -> bool); 4] = [
+    ("exactly long enough", |length, count| length == count && count > 0),
+    ("one too short", |length, count| length + 1 == count),
+    ("of no place, too short", |length, count| length == 0 && count > 0),
+    ("longer", |length, count| length > count && count > 0),
+];
+
 #[derive(Default)]
 pub struct Tally {
     /// By call and refusal, 0 for an accepted call.
     answers: BTreeMap<(Kind, u32), u64>,
     changes: BTreeMap<(char, char), u64>,
     days: BTreeMap<(usize, bool), u64>,
+    /// Histories that fit into their buffer, of one record or more.
+    listed: u64,
+    histories: [u64; HISTORIES.len()],
+    buffers: [u64; BUFFERS.len()],
 }
 
 impl Tally {
@@ -52,6 +100,16 @@ impl Tally {
 
     pub fn change(&mut self, from: char, to: char) {
         *self.changes.entry((from, to)).or_default() += 1;
+    }
+
+    /// A history of these records, in the order of filing, into a buffer of so many places.
+    pub fn history(&mut self, mine: &[Listed], length: usize) {
+        let buffers = self.buffers.iter_mut().zip(BUFFERS);
+        buffers.for_each(|(count, (_, is))| *count += is(length, mine.len()) as u64);
+        if !mine.is_empty() && mine.len() <= length {
+            self.listed += 1;
+            self.histories.iter_mut().zip(HISTORIES).for_each(|(count, (_, is))| *count += is(mine) as u64);
+        }
     }
 
     pub fn calls(&self) -> u64 {
@@ -94,6 +152,22 @@ impl Tally {
         println!();
         let others = self.changes.keys().filter(|change| !CHANGES.contains(change));
         wrong.extend(others.map(|(from, to)| format!("a status went from {from} to {to}")));
+        print!("histories listed: {}", self.listed);
+        for ((what, _), count) in HISTORIES.iter().zip(self.histories) {
+            print!("; {what} {count}");
+            if count == 0 {
+                wrong.push(format!("no history was listed with {what}"));
+            }
+        }
+        println!();
+        print!("buffers of histories:");
+        for ((what, _), count) in BUFFERS.iter().zip(self.buffers) {
+            print!(" {what} {count}");
+            if count == 0 {
+                wrong.push(format!("no buffer of a history was {what}"));
+            }
+        }
+        println!();
         wrong
     }
 }

@@ -95,8 +95,8 @@ impl Both {
         }
     }
 
-    /// Eight actors and two categories, all with loads on four days: 64 loads.
-    fn set_up() -> Self {
+    /// Eight actors and two categories. So many of the actors have loads for both categories, on as many days as make 64 loads.
+    fn set_up(loaded: usize) -> Self {
         let mut both = Both::fresh();
         both.advance(day(0) as u32 - 1, 600);
         let (first, last) = (day_of(b"20200101").unwrap() as u32, day_of(b"20221231").unwrap() as u32);
@@ -110,7 +110,8 @@ impl Both {
             assert!(same(both.proved.enrol_category(trimmed(c)).map(|n| [n]), peers.map(|n| [n as u32])));
         }
         for i in 0..64 {
-            let (actor, category, day) = (code(i % 8), trimmed(CATEGORIES[i / 8 % 2]), day(i / 16) as u32);
+            let (actor, category) = (code(i % loaded), trimmed(CATEGORIES[i / loaded % 2]));
+            let day = day(i / loaded / 2) as u32;
             let peers = both.peer.load(&actor, category, day, 9000, &[4000; 48]);
             let ours = both.proved.load(actor, category, Day(day), 9000, &[4000; 48]);
             assert!(same(ours.map(|n| [n]), peers.map(|n| [n as u32])));
@@ -127,7 +128,7 @@ impl Both {
     /// replaced, some waiting for an answer. A filing to come, by its acquirer, is the first under its key; or it pairs
     /// with a created one and, from three records on, replaces a valid one.
     pub fn fixture(held: usize, paired: bool) -> (Both, Notification) {
-        let (mut both, mut random, mut count) = (Both::set_up(), Random(held as u64), 0);
+        let (mut both, mut random, mut count) = (Both::set_up(8), Random(held as u64), 0);
         let (mut mine, mut seen) = (random.notification(), Vec::new());
         (mine.ceder, mine.acquirer, mine.day) = (code(2), code(5), day(1));
         if paired && held > 2 {
@@ -151,5 +152,32 @@ impl Both {
             both.filed(&mine, &[mine.ceder]);
         }
         (both, mine)
+    }
+
+    /// Registers of 255 records, all with the ceder `code(2)`: its filings and their answers by three acquirers, for the clock's day
+    /// and the seven after it, the n-th of them for the day that is asked for.
+    pub fn listed(mut day_of: impl FnMut(usize, &mut Random) -> usize) -> Both {
+        let (mut both, mut random, mut count) = (Both::set_up(4), Random(255), 0);
+        both.advance(day(0) as u32, 600);
+        while count < 255 {
+            let mut n = random.notification();
+            (n.ceder, n.acquirer) = (code(2), code([0, 1, 3][random.below(3)]));
+            n.day = day(day_of(count, &mut random));
+            let alone = random.below(2) == 0 || count == 254;
+            let by = [n.ceder, n.acquirer];
+            let filed = both.filed(&n, &by[..2 - alone as usize]);
+            assert_eq!(filed, 2 - alone as usize);
+            count += filed;
+        }
+        both
+    }
+
+    /// An actor's history, from both, into buffers of so many places; both list the same ids in the same order.
+    pub fn history(&self, actor: &[u8], length: usize) -> bool {
+        let (mut ids, mut peers_ids) = (vec![999; length], vec![999; length]);
+        let ours = self.proved.history(actor, &mut ids).map(|n| [n as u32]);
+        let answered = same(ours, self.peer.history(actor, &mut peers_ids).map(|n| [n as u32]));
+        assert_eq!(ids, peers_ids.iter().map(|id| *id as u32).collect::<Vec<u32>>());
+        answered
     }
 }

@@ -1,4 +1,4 @@
-//! The proved register beside the peer's: the same filings and engagement calls in one run, in ns, with the ratio.
+//! The proved register beside the peer's: the same filings, engagement calls and histories in one run, in ns, with the ratio.
 //! `filing count CASE SIDE` only calls, for callgrind, and prints how often. `filing scripts PROVED PEER` times the script programs.
 
 mod both;
@@ -7,7 +7,7 @@ mod scripts;
 use std::hint::black_box;
 use std::time::Instant;
 
-use both::{day, written, Both};
+use both::{code, day, written, Both, Random};
 use peer::notification::Notification;
 use register::{Day, Filed, Refusal, Register};
 
@@ -24,6 +24,20 @@ const CASES: [(&str, usize, bool); 8] = [
 ];
 
 const ENGAGEMENT: &str = "engagement_255";
+
+/// The histories of an actor with 255 records: how they were filed over eight days, and how many places the lent buffer has.
+const HISTORIES: [(&str, DayOf, usize); 4] = [
+    ("history_in_day_order", |n, _| n * 8 / 255, 256),
+    ("history_against_it", |n, _| 7 - n * 8 / 255, 256),
+    ("history_eight_days_mixed", |_, random| random.below(8), 256),
+    ("history_buffer_one_short", |_, random| random.below(8), 254),
+];
+
+/// How many days after the clock's the n-th record's is.
+type DayOf = fn(usize, &mut Random) -> usize;
+
+/// How often a history is asked for at a time.
+const ASKED: usize = 64;
 
 #[inline(never)]
 fn proved_filing(r: &mut Register, by: &[u8], name: &[u8], body: &[u8]) -> Result<Filed, Refusal> {
@@ -47,6 +61,16 @@ fn peer_engagement(
     r: &peer::register::Register, actor: &[u8], category: &[u8], day: u32, step: u32,
 ) -> Result<i32, peer::Refusal> {
     r.engagement(actor, category, day, step)
+}
+
+#[inline(never)]
+fn proved_history(r: &Register, actor: &[u8], ids: &mut [u32]) -> Result<usize, Refusal> {
+    r.history(actor, ids)
+}
+
+#[inline(never)]
+fn peer_history(r: &peer::register::Register, actor: &[u8], ids: &mut [u16]) -> Result<usize, peer::Refusal> {
+    r.history(actor, ids)
 }
 
 /// Seven times the median of many slices, and the median of those; a slice gives ns per call.
@@ -82,6 +106,10 @@ fn moments() -> impl Iterator<Item = (u32, u32)> {
 
 fn time_engagement(mut ask: impl FnMut(u32, u32)) -> f64 {
     nanoseconds(|| timed(4 * 48, || moments().for_each(|(day, step)| ask(black_box(day), black_box(step)))))
+}
+
+fn time_history(mut ask: impl FnMut()) -> f64 {
+    nanoseconds(|| timed(ASKED, || (0..ASKED).for_each(|_| ask())))
 }
 
 fn print(name: &str, proved: f64, peer: f64) {
@@ -124,6 +152,24 @@ fn all() {
         let _ = black_box(peer_engagement(black_box(&both.peer), &n.ceder, b"13120", day, step));
     });
     print(ENGAGEMENT, proved, peer);
+    for (name, day_of, length) in HISTORIES {
+        history(name, &Both::listed(day_of), length);
+    }
+}
+
+/// Before a history is timed, both list the same ids in the same order; one place less than there are records is too short.
+fn history(name: &str, both: &Both, length: usize) {
+    let (actor, mut ids, mut peers_ids) = (code(2), [0; 256], [0; 256]);
+    assert!([255, 256].iter().all(|length| both.history(&actor, *length)) && !both.history(&actor, 254));
+    let proved = time_history(|| {
+        let ids = black_box(&mut ids[..length]);
+        let _ = black_box(proved_history(black_box(&both.proved), black_box(&actor), ids));
+    });
+    let peer = time_history(|| {
+        let ids = black_box(&mut peers_ids[..length]);
+        let _ = black_box(peer_history(black_box(&both.peer), black_box(&actor), ids));
+    });
+    print(name, proved, peer);
 }
 
 /// Makes the calls of one case on one side.
@@ -138,6 +184,18 @@ fn count(case: &str, side: &str) {
             }
         }
         println!("{}", moments().count());
+        return;
+    }
+    if let Some((_, day_of, length)) = HISTORIES.into_iter().find(|c| c.0 == case) {
+        let both = Both::listed(day_of);
+        for _ in 0..ASKED {
+            if side == "proved" {
+                let _ = black_box(proved_history(&both.proved, &code(2), &mut [0; 256][..length]));
+            } else {
+                let _ = black_box(peer_history(&both.peer, &code(2), &mut [0; 256][..length]));
+            }
+        }
+        println!("{ASKED}");
         return;
     }
     let (_, held, paired) = CASES.into_iter().find(|c| c.0 == case).expect("a case");

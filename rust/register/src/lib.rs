@@ -199,8 +199,38 @@ impl Register {
         Ok(Record { submitter, notification, status, from: shown.from, until: shown.until })
     }
 
-    /// Puts the ids of all records of which the actor is ceder or acquirer into the lent buffer, each once, and gives how many they are.
-    /// The rest of the buffer, and all of it beside a refusal, is left as it was. Refused by 22 and 36; a buffer of 256 is enough.
+    /// Puts the ids of all records of which the actor is ceder or acquirer into the lent buffer and gives how many they are. They run by
+    /// day, earliest first, and within a day by id, lowest first; each comes once. The rest of the buffer, and all of it beside a refusal,
+    /// is left as it was. Refused by 22 and 36; a buffer of 256 is enough.
+    ///
+    /// ```
+    /// # use register::{Day, Notification, Refusal, Register, BODY_LENGTH, NAME_LENGTH};
+    /// # let (north, south) = ("17X100A100R0000L", "17X100A100R0001J");
+    /// # let today = Day::of("20210120").unwrap();
+    /// let (tomorrow, the_day_after) = (Day(today.0 + 1), Day(today.0 + 2));
+    /// # let mut register = Register::new();
+    /// # register.advance(today, 600)?;
+    /// # register.enrol_actor(north, today, the_day_after)?;
+    /// # register.enrol_actor(south, today, the_day_after)?;
+    /// # register.enrol_category("13120")?;
+    /// # for day in [tomorrow, the_day_after] {
+    /// #     register.load(north, "13120", day, 100, &[60; 48])?;
+    /// #     register.load(south, "13120", day, 100, &[0; 48])?;
+    /// # }
+    /// // North files for the day after tomorrow, then twice for tomorrow.
+    /// for day in [the_day_after, tomorrow, tomorrow] {
+    ///     let exchange = Notification::new(north.parse()?, south.parse()?, "13120".parse()?, day, &[40; 48]);
+    ///     // ... written and filed
+    /// #   let (mut name, mut body) = ([0; NAME_LENGTH], [0; BODY_LENGTH]);
+    /// #   let (a, b) = exchange.write(&mut name, &mut body)?;
+    /// #   register.file(north, &name[..a], &body[..b])?;
+    /// }
+    /// let mut ids = [0; 4];
+    /// assert_eq!(register.history(south, &mut ids), Ok(3));
+    /// assert_eq!(ids, [2, 3, 1, 0]);
+    /// assert_eq!(register.history(south, &mut ids[..2]), Err(Refusal { number: 36, place: 0 }));
+    /// # Ok::<(), Refusal>(())
+    /// ```
     pub fn history(&self, actor: impl AsRef<[u8]>, ids: &mut [u32]) -> Result<usize, Refusal> {
         let said = ffi::history(&self.0, actor.as_ref(), ids);
         said.accepted().map(|values| values[0] as usize)

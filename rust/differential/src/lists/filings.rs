@@ -92,7 +92,7 @@ impl Scene<'_> {
     pub(super) fn filing_after(&mut self, mut note: Note, by: &[u8]) {
         let other = if by == note.ceder { note.acquirer.clone() } else { note.ceder.clone() };
         let count = note.powers.len();
-        match self.random.below(18) {
+        match self.random.below(20) {
             // Answered by the other party.
             0..6 => self.file(&note, &other),
             // Answered, with another power at one step, perhaps one that counts no longer.
@@ -123,6 +123,12 @@ impl Scene<'_> {
             15 => {
                 self.any_advance();
                 self.file(&note, &other);
+            }
+            // For another day, which may be an earlier one.
+            16 | 17 => {
+                let day = self.any_day();
+                (note.date, note.powers) = (date(day), self.powers(steps_of(day)));
+                self.file(&note, by);
             }
             _ => {
                 note.powers = self.powers(count);

@@ -63,13 +63,17 @@ returns c statuses marks rows loads =
 enum-told : tie.Need-enum-told
 enum-told c = search needs
 
+add-put-ids : tie.Need-add-put-ids
+add-put-ids c = search needs
+
 put-ids-requires : tie.Need-put-ids-requires
 put-ids-requires c κs =
-    let t = c .before .before .before in
+    let e = c .before .before .before in
+    let t = e .before .before in
     let a = start t .args in (
       omega (arith, t .before .before .before .before .least .ensures),
       listed-room (a .self) (columns [] (a .ids .now) (a .keys .now) [] []) noLoads (a .actor .now) (a .out .now) _ _ _ _
-          (actors t) (t .before .before .before .before .before .place .ensures) (t .before .before .before .before .least .ensures) (t .before .before .before .count-ids .ensures .0 (a .ids .now)) _ (tested t) (c .before .enum-told .given .1),
+          (actors t) (t .before .before .before .before .before .place .ensures) (t .before .before .before .before .least .ensures) (t .before .before .before .count-ids .ensures .0 (a .ids .now)) _ (tested t) (e .enum-told .given .1),
     )
 
 same-length : tie.Need-same-length
@@ -77,10 +81,11 @@ same-length c = search needs
 
 returns-2 : tie.Need-returns-2
 returns-2 c statuses marks rows loads =
-    let t = c .before .before .before .before .before .before in
+    let e = c .before .before .before .before .before .before in
+    let t = e .before .before in
     let a = start t .args in
     listed-all (a .self) (columns statuses (a .ids .now) (a .keys .now) marks rows) loads (a .actor .now) (a .out .now) _ _ _ _
-    (actors t) (t .before .before .before .before .before .place .ensures) (t .before .before .before .before .least .ensures) (t .before .before .before .count-ids .ensures .0 (a .ids .now)) _ (tested t) (c .before .before .before .before .enum-told .given .1)
+    (actors t) (t .before .before .before .before .before .place .ensures) (t .before .before .before .before .least .ensures) (t .before .before .before .count-ids .ensures .0 (a .ids .now)) _ (tested t) (e .enum-told .given .1)
     _ (c .before .before .put-ids .ensures)
 
 pub history-spec : {M : Type 1} → statement M
@@ -97,6 +102,7 @@ history-spec =
     enum-known-v
     returns
     enum-told
+    add-put-ids
     put-ids-requires
     same-length
     returns-2)
