@@ -239,7 +239,8 @@ static inline register_said register_enrol_category(register_state *r, const uin
 }
 
 /* Gives one actor, category and day an approved power and one loaded power per step. Values: how many loads there now are. Refusals
- * 10, 22, 23, 39, 37, 36. */
+ * 10, 22, 23, 39, 37, 36. A day can be loaded if it is after the clock's and all of it still counts: 39 refuses the next day in the last
+ * half hour of the clock's. */
 static inline register_said register_load(register_state *r, const uint8_t *actor, size_t actor_length, const uint8_t *category,
                                           size_t category_length, uint32_t day, uint32_t approved, const uint32_t *powers,
                                           size_t powers_length)
@@ -249,7 +250,8 @@ static inline register_said register_load(register_state *r, const uint8_t *acto
 }
 
 /* Files a notification: the submitter's code, the file's name, the file's body. Values: the record's id, its status's letter, its
- * from-step. Refusals 1 to 8, then 20 to 36. */
+ * from-step, which is the first counted step of its day: of the clock's day the second after the one that runs, of the next day 0, in the
+ * last half hour before it 1, of later days 0. Refusals 1 to 8, then 20 to 36. */
 static inline register_said register_file(register_state *r, const uint8_t *submitter, size_t submitter_length, const uint8_t *name,
                                           size_t name_length, const uint8_t *body, size_t body_length)
 {

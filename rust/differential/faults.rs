@@ -13,7 +13,7 @@ pub struct Fault {
     pub new: &'static str,
 }
 
-pub const FAULTS: [Fault; 13] = [
+pub const FAULTS: [Fault; 17] = [
     Fault {
         name: "neutral_hour_rounded_up",
         breaks: "First counted step: floor(m/30)+2 for the clock's day",
@@ -115,5 +115,33 @@ pub const FAULTS: [Fault; 13] = [
                 }
                 at += 1;
             }",
+    },
+    Fault {
+        name: "neutral_hour_ends_at_midnight",
+        breaks: "K2: for the day after the clock's, floor(m/30)+2 less the clock day's step count",
+        file: "register.rs",
+        old: "1 => first.saturating_sub(steps(self.day)),",
+        new: "1 => 0,",
+    },
+    Fault {
+        name: "step_count_of_the_delivery_day",
+        breaks: "K2: less the clock day's step count",
+        file: "register.rs",
+        old: "first.saturating_sub(steps(self.day))",
+        new: "first.saturating_sub(steps(day))",
+    },
+    Fault {
+        name: "tomorrows_exchange_obsolete",
+        breaks: "K2: O only if its from-step equals the new one or the new one is 0",
+        file: "register.rs",
+        old: "if earlier.from as usize == from || from == 0 {",
+        new: "if earlier.from as usize == from || n.day > self.day {",
+    },
+    Fault {
+        name: "load_for_tomorrow_in_the_last_half_hour",
+        breaks: "K2: 39 when the next day's first counted step isn't 0",
+        file: "register.rs",
+        old: "hold(day > self.day && self.first_counted(day) == 0, 39)?;",
+        new: "hold(day > self.day, 39)?;",
     },
 ];

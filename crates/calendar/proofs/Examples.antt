@@ -1,4 +1,4 @@
--- The examples of document 01 that concern days, marked † there, in one list.
+-- The examples of document 01 that concern days, marked † there, and those of document 02, K2, in one list.
 use mathlib.Core.Path.{_≡_, refl}
 use mathlib.Core.Bool.{Bool, true, false}
 use mathlib.Core.List.{List, [], _∷_}
@@ -9,6 +9,7 @@ use Rattle.calendar.specs.Texts.{pairOf, dayOf}
 use Rattle.calendar.specs.Steps.{lastSunday, stepsOf}
 use Rattle.calendar.specs.Labels.{timeText, labelOf, labelsOf}
 use Rattle.calendar.specs.Clocks.{firstCounted}
+use Rattle.calendar.specs.declared.clock.Clock.{Clock}
 use Rattle.calendar.specs.declared.labels.Label.{Label}
 use Rattle.calendar.specs.declared.labels.Labels.{Labels}
 use Rattle.calendar.specs.declared.texts.Day.the-variants.{Number}
@@ -16,6 +17,12 @@ use Rattle.calendar.specs.declared.texts.Day.the-variants.{Number}
 -- the first counted step of the clock's own day at a minute
 abbrev counted : ℕ → ℕ
 counted m = firstCounted (record { day = 0; minute = m }) 0
+
+-- the first counted steps of the next day and of the day after it, at a minute of a day
+abbrev ahead : ℕ → ℕ → ℕ × ℕ
+ahead day m =
+    let clock : Clock = record { day = day; minute = m } in
+    (firstCounted clock (day + 1), firstCounted clock (day + 2))
 
 -- whether some step of a day of so many steps still counts; where not, a filing gives 28
 abbrev left : ℕ → ℕ → Bool
@@ -49,6 +56,12 @@ pub record Days : Type 0 where
   pub day-20210328 : (dayOf (eight 20210328) ≡ Number 7757) × (stepsOf 7757 ≡ 46)
   pub day-20211031 : (dayOf (eight 20211031) ≡ Number 7974) × (stepsOf 7974 ≡ 50)
   pub day-20000326 : (dayOf (eight 20000326) ≡ Number 85) × (stepsOf 85 ≡ 46)
+  -- "on a 48-step day minute 1409 gives 0 and 1410 gives 1", whether the next day has 48 steps, 46 or 50; then an eve of 46 and one of 50
+  pub eve-48 : (stepsOf 7755 ≡ 48) × (ahead 7755 1409 ≡ (0, 0)) × (ahead 7755 1410 ≡ (1, 0))
+  pub eve-of-short : (stepsOf 7756 ≡ 48) × (ahead 7756 1409 ≡ (0, 0)) × (ahead 7756 1410 ≡ (1, 0))
+  pub eve-of-long : (stepsOf 7973 ≡ 48) × (ahead 7973 1409 ≡ (0, 0)) × (ahead 7973 1410 ≡ (1, 0))
+  pub short-eve : (ahead 7757 1349 ≡ (0, 0)) × (ahead 7757 1350 ≡ (1, 0))
+  pub long-eve : (ahead 7974 1469 ≡ (0, 0)) × (ahead 7974 1470 ≡ (1, 0))
   pub short-labels : (labelsOf 46 3 ≡ pair (once 90) (once 180)) × (labelsOf 46 4 ≡ pair (once 180) (once 210))
   pub long-4-to-6 : (labelsOf 50 4 ≡ pair (once 120) (once 150)) × (labelsOf 50 5 ≡ pair (once 150) (once 180)) × (labelsOf 50 6 ≡ pair (once 180) (bis 150))
   pub long-7-to-9 : (labelsOf 50 7 ≡ pair (bis 150) (bis 180)) × (labelsOf 50 8 ≡ pair (bis 180) (once 210)) × (labelsOf 50 9 ≡ pair (once 210) (once 240))
@@ -70,6 +83,11 @@ days =
       day-20210328 = (refl, refl);
       day-20211031 = (refl, refl);
       day-20000326 = (refl, refl);
+      eve-48 = (refl, refl, refl);
+      eve-of-short = (refl, refl, refl);
+      eve-of-long = (refl, refl, refl);
+      short-eve = (refl, refl);
+      long-eve = (refl, refl);
       short-labels = (refl, refl);
       long-4-to-6 = (refl, refl, refl);
       long-7-to-9 = (refl, refl, refl);

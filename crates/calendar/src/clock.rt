@@ -5,6 +5,7 @@ ghost use Rattle.calendar.specs.Clocks.{freshClock, firstCounted, counts
 ghost use Rattle.calendar.specs.Clocks.{isBefore, advanced};
 use crate::steps::STEP_MINUTES;
 use crate::steps::steps_of;
+use lists::numbers::least;
 use refusals::InputRefusal;
 use refusals::Refusal;
 use refusals::StateRefusal;
@@ -12,7 +13,7 @@ use refusals::Verdict;
 use refusals::trying::try_input;
 use refusals::trying::try_state;
 
-// The steps that the neutral hour takes from the clock's own on: the one that runs, and the next.
+// The steps that the neutral hour takes from the clock's own on: the one that runs, and the next, past midnight too.
 const NEUTRAL_STEPS: u32 = 2;
 
 // A day and the minutes elapsed since its local midnight.
@@ -40,11 +41,15 @@ impl Clock {
     pub fn first_counted(self, day: u32) -> u32
         ensures { λ r. ⌜ r ≡ firstCounted self day ⌝ }
     {
-        if self.day < day {
-            0
-        } else {
-            self.minute / STEP_MINUTES + NEUTRAL_STEPS
+        let after = self.minute / STEP_MINUTES + NEUTRAL_STEPS;
+        if day <= self.day {
+            return after;
         }
+        if day - self.day > 1 {
+            return 0;
+        }
+        let steps = steps_of(self.day);
+        after - least(after, steps)
     }
 
     // Whether a step of a day counts.
@@ -60,14 +65,15 @@ impl Clock {
         ensures { λ r. ⌜ r ≡ replacesWhole self from day ⌝ }
     {
         let first = self.first_counted(day);
-        (from == first) | (self.day < day)
+        (from == first) | (first == 0)
     }
 
     // Whether a day can be loaded.
     pub fn loadable(self, day: u32) -> bool
         ensures { λ r. ⌜ r ≡ loadable self day ⌝ }
     {
-        self.day < day
+        let first = self.first_counted(day);
+        (self.day < day) & (first == 0)
     }
 
     // Whether the minute is one of the day's.

@@ -1,4 +1,4 @@
-// The minutes of document 01 on their days, and moves of the clock.
+// The minutes of documents 01 and 02 on their days, and moves of the clock.
 ghost use Prim.Native.Nat.{_≤_};
 ghost use Rattle.calendar.specs.Dates.{dayCount};
 use crate::printing::put;
@@ -34,8 +34,14 @@ fn counted(clock: Clock, day: u32) -> u32 {
     n
 }
 
+// How many steps of a day count, and from which on.
+fn put_counted(clock: Clock, day: u32) {
+    put_with(b"", counted(clock, day));
+    put_with(b" from ", clock.first_counted(day));
+}
+
 // A minute of a day: whether it is one, its first counted step with that step's label, and how many steps count on the
-// day, on the next one and on the one before.
+// day, on the two after it and on the one before.
 fn minute_line(day: u32, minute: u32)
     requires { ⌜ (1 ≤ day) × (day ≤ dayCount) ⌝ }
 {
@@ -55,25 +61,36 @@ fn minute_line(day: u32, minute: u32)
     put(b" ");
     put_label(from);
     put_with(b", counted ", counted(clock, day));
-    put_with(b", tomorrow ", counted(clock, tomorrow));
+    put(b", tomorrow ");
+    put_counted(clock, tomorrow);
+    put(b", the day after ");
+    put_counted(clock, day + 2);
     put_with(b", yesterday ", counted(clock, yesterday));
     put(b"\n");
 }
 
-// 20210120, a day of 48 steps.
+// 20210120, a day of 48 steps, and the eves of a day of 46 and of one of 50.
 pub(crate) fn plain_minutes() {
     minute_line(7690, 942);
     minute_line(7690, 1068);
     minute_line(7690, 1379);
     minute_line(7690, 1380);
+    minute_line(7690, 1409);
+    minute_line(7690, 1410);
     minute_line(7690, 1439);
     minute_line(7690, 1440);
+    minute_line(7756, 1409);
+    minute_line(7756, 1410);
+    minute_line(7973, 1409);
+    minute_line(7973, 1410);
 }
 
 // 20210328.
 pub(crate) fn short_minutes() {
     minute_line(7757, 1319);
     minute_line(7757, 1320);
+    minute_line(7757, 1349);
+    minute_line(7757, 1350);
     minute_line(7757, 1379);
     minute_line(7757, 1380);
 }
@@ -82,6 +99,8 @@ pub(crate) fn short_minutes() {
 pub(crate) fn long_minutes() {
     minute_line(7974, 1439);
     minute_line(7974, 1440);
+    minute_line(7974, 1469);
+    minute_line(7974, 1470);
     minute_line(7974, 1499);
     minute_line(7974, 1500);
 }

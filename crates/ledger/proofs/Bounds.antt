@@ -8,7 +8,7 @@ use Rattle.lists.specs.Searches.{same, placeOf}
 use Rattle.calendar.specs.Dates.{date, tomorrow, number, valid, monthLength, leapDays, beforeYear, beforeMonth}
 use Rattle.calendar.specs.Steps.{stepsOf, lastSunday}
 use Rattle.notification.specs.Forms.{isCode, isCategory, inPlaces}
-use Rattle.calendar.specs.Clocks.{loadable}
+use Rattle.calendar.specs.Clocks.{firstCounted, loadable}
 use Rattle.ledger.specs.Call.{Call, enrolActor, enrolCategory, load, advance}
 use Rattle.ledger.specs.Ledger.{Ledger, actorAt, categoryAt, hasLoad}
 use Rattle.ledger.specs.Filing.{nobody}
@@ -41,6 +41,10 @@ holding actors categories loads =
 
 unfoldable pub one : Ledger
 one = holding 0 0 0
+
+-- the same at a later minute of the day
+unfoldable pub later : ℕ → Ledger
+later minute = step one (advance plainDay minute) .ledger
 
 -- a call's answer, and number and place of its refusal
 unfoldable pub answer : Ledger → Call → Answer
@@ -88,6 +92,11 @@ pub record Bounds : Type 0 where
   -- "39: the load's day isn't after the clock's": the next day is
   pub clocks-day : refused one (loads 1 100 48 50) ≡ (39, 0)
   pub next-day : answer one (loads 2 100 48 50) ≡ Held 2
+  -- K2: "A load for the next day is refused with 39 when that day's first counted step isn't 0": not before the last half hour, and not
+  -- the day after
+  pub last-half-hour : (answer (later 1409) (loads 2 100 48 50) ≡ Held 2) × (refused (later 1410) (loads 2 100 48 50) ≡ (39, 0))
+  pub further-day : answer (later 1410) (loads 4 100 48 50) ≡ Held 2
+  pub loaded-day : refused (later 1410) (loads 3 100 48 50) ≡ (37, 0)
   -- "advance the clock (the same moment is accepted)"; "38: the clock would go back"
   pub same-moment : answer one (advance 1 600) ≡ Moved
   pub minute-before : refused one (advance 1 599) ≡ (38, 0)
@@ -98,7 +107,7 @@ pub record Bounds : Type 0 where
   pub no-day : refused one (advance 36525 0) ≡ (10, 0)
 
 pub bounds : Bounds
-unfolding eic other withC holding one answer loads same placeOf date tomorrow number valid monthLength leapDays beforeYear beforeMonth stepsOf lastSunday isCode isCategory inPlaces actorAt categoryAt hasLoad actorTests categoryTests loadRanged loadable loadTests verdictOf effect step
+unfolding eic other withC holding one later answer loads same placeOf date tomorrow number valid monthLength leapDays beforeYear beforeMonth stepsOf lastSunday isCode isCategory inPlaces actorAt categoryAt hasLoad actorTests categoryTests loadRanged firstCounted loadable loadTests verdictOf effect step
 bounds =
     record {
       actor-8 = refl;
@@ -128,6 +137,9 @@ bounds =
       category-unknown = refl;
       clocks-day = refl;
       next-day = refl;
+      last-half-hour = (refl, refl);
+      further-day = refl;
+      loaded-day = refl;
       same-moment = refl;
       minute-before = refl;
       day-before = refl;

@@ -1,8 +1,8 @@
--- The examples of document 01, "Days and filings at the edge", that are marked † there, in one list carried by one proof: the
--- calendar's, and those of filings, each as the answer that the ledger gives.
+-- The examples of document 01, "Days and filings at the edge", that are marked † there, and those of document 02, K2, in one list
+-- carried by one proof: the calendar's, and those of filings, each as the answer that the ledger gives.
 use mathlib.Core.Path.{_≡_, refl}
 use mathlib.Core.List.{List, [], _∷_, _++_, map}
-use Prim.Native.Nat.{ℕ}
+use Prim.Native.Nat.{ℕ, _+_}
 use lib.ListN.{replicate}
 use Rattle.lists.specs.Searches.{same, placeOf, firstFrom}
 use Rattle.calendar.specs.Dates.{date, tomorrow, number, valid, monthLength, leapDays, beforeYear, beforeMonth}
@@ -10,7 +10,7 @@ use Rattle.calendar.specs.Steps.{stepsOf, lastSunday}
 use Rattle.calendar.specs.Clocks.{firstCounted, replacesWhole, loadable}
 use Rattle.calendar.proofs.Examples.{Days, days}
 use Rattle.refusals.specs.declared.Refusal.the-variants.{State}
-use Rattle.refusals.specs.declared.StateRefusal.the-variants.{NoStep, CederAbove, AcquirerBelow}
+use Rattle.refusals.specs.declared.StateRefusal.the-variants.{NoStep, CederBelow, CederAbove, AcquirerBelow}
 use Rattle.notification.specs.Forms.{isCode, isCategory, categoryText, inPlaces}
 use Rattle.notification.specs.declared.Notification.{Notification}
 use Rattle.ledger.specs.declared.Entry.the-variants.{SevenDays}
@@ -68,13 +68,26 @@ shortDay = 85
 abbrev pub longDay : ℕ
 longDay = 302
 
--- two actors, the first with 60 of 100 and the second with 0 of 100, at a minute of the day of their loads
+-- two actors, the first with 60 of 100 and the second with 0 of 100 on a day, at a minute of a day
+abbrev pub twoOn : ℕ → ℕ → ℕ → Ledger
+twoOn day today minute =
+    after fresh (enrolCategory category ∷ enters first day 60 100 ++ enters second day 0 100 ++ (advance today minute ∷ []))
+
+-- at a minute of the day of their loads
 unfoldable pub two : ℕ → ℕ → Ledger
-two day minute =
-    after fresh (enrolCategory category ∷ enters first day 60 100 ++ enters second day 0 100 ++ (advance day minute ∷ []))
+two day minute = twoOn day day minute
+
+-- what a filing so many days ahead is answered, and one for the day itself
+unfoldable pub answerAhead : ℕ → ℕ → ℕ → Answer
+answerAhead ahead today minute =
+    stepNote (twoOn (ahead + today) today minute) SevenDays first (note first second (ahead + today) 40) .answer
 
 unfoldable pub answerAt : ℕ → ℕ → Answer
-answerAt day minute = stepNote (two day minute) SevenDays first (note first second day 40) .answer
+answerAt day minute = answerAhead 0 day minute
+
+-- a filing of 40 for the next day but at step 0, where the ceder doesn't have as much
+unfoldable pub muchAtZero : ℕ → Answer
+muchAtZero minute = stepNote (twoOn plainDay 0 minute) SevenDays first (noteWith first second plainDay (61 ∷ replicate 47 40)) .answer
 
 -- the acquirer's answer where its powers are the ceder's but at step 0
 unfoldable pub butAtZero : ℕ → Answer
@@ -118,13 +131,27 @@ pub record Edge : Type 0 where
   pub short-1320 : answerAt shortDay 1320 ≡ noStep
   pub long-1439 : answerAt longDay 1439 ≡ Filed 1 created 49
   pub long-1440 : answerAt longDay 1440 ≡ noStep
+  -- K2, for the next day: on an eve of 48 steps, of 46, of 50, and on the eves of these two, which have 48; for the day after it
+  pub eve-1409 : answerAhead 1 0 1409 ≡ Filed 1 created 0
+  pub eve-1410 : answerAhead 1 0 1410 ≡ Filed 1 created 1
+  pub short-eve-1349 : answerAhead 1 shortDay 1349 ≡ Filed 1 created 0
+  pub short-eve-1350 : answerAhead 1 shortDay 1350 ≡ Filed 1 created 1
+  pub long-eve-1469 : answerAhead 1 longDay 1469 ≡ Filed 1 created 0
+  pub long-eve-1470 : answerAhead 1 longDay 1470 ≡ Filed 1 created 1
+  pub eve-of-short : (answerAhead 1 84 1409 ≡ Filed 1 created 0) × (answerAhead 1 84 1410 ≡ Filed 1 created 1)
+  pub eve-of-long : (answerAhead 1 301 1409 ≡ Filed 1 created 0) × (answerAhead 1 301 1410 ≡ Filed 1 created 1)
+  pub two-days-ahead : (answerAhead 2 0 1410 ≡ Filed 1 created 0) × (answerAhead 2 shortDay 1350 ≡ Filed 1 created 0) × (answerAhead 2 longDay 1470 ≡ Filed 1 created 0)
+  -- checks 32 to 35 are of the counted steps
+  pub unchecked-zero : (muchAtZero 1409 ≡ Refused (State CederBelow 0)) × (muchAtZero 1410 ≡ Filed 1 created 1)
   pub ceded-on : each cededOn ≡ 20 ∷ 10 ∷ 80 ∷ []
   pub replaced-35 : replacing cededOn ≡ Refused (State AcquirerBelow 0)
   -- on the day itself the place is the lowest counted step
   pub replaced-35-later : replacing (step cededOn (advance plainDay 942) .ledger) ≡ Refused (State AcquirerBelow 33)
+  pub replaced-35-eve : replacing (step cededOn (advance 0 1410) .ledger) ≡ Refused (State AcquirerBelow 1)
   pub acquired-back : each (acquiredFrom third) ≡ 55 ∷ 40 ∷ 15 ∷ []
   pub replaced-34 : replacing (acquiredFrom third) ≡ Refused (State CederAbove 0)
   pub replaced-34-later : replacing (step (acquiredFrom third) (advance plainDay 942) .ledger) ≡ Refused (State CederAbove 33)
+  pub replaced-34-eve : replacing (step (acquiredFrom third) (advance 0 1410) .ledger) ≡ Refused (State CederAbove 1)
   -- the same where it acquires from the acquirer itself: A to B and B to A are two keys
   pub acquired-opposite : each (acquiredFrom second) ≡ 55 ∷ 5 ∷ 50 ∷ []
   pub replaced-34-opposite : replacing (acquiredFrom second) ≡ Refused (State CederAbove 0)
@@ -132,7 +159,7 @@ pub record Edge : Type 0 where
   pub uncounted-differs : butAtZero 942 ≡ Filed 2 created 33
 
 pub edge : Edge
-unfolding eic enters noteWith note exchange two answerAt butAtZero noStep three cededOn acquiredFrom replacing each same placeOf firstFrom date tomorrow number valid monthLength leapDays beforeYear beforeMonth stepsOf lastSunday firstCounted isCode isCategory categoryText inPlaces actorAt categoryAt hasLoad loaded approved moved power acquired ceded gained engagement keyOf cederBelow acquirerAbove cederAbove acquirerBelow partyTests dayTests loadTest stepTests placeTests samePowers pairs replacesWhole nextId filed actorTests categoryTests loadRanged loadable loadTests verdictOf fileAt effect stepNote step engagedAt
+unfolding eic enters noteWith note exchange two answerAhead answerAt muchAtZero butAtZero noStep three cededOn acquiredFrom replacing each same placeOf firstFrom date tomorrow number valid monthLength leapDays beforeYear beforeMonth stepsOf lastSunday firstCounted isCode isCategory categoryText inPlaces actorAt categoryAt hasLoad loaded approved moved power acquired ceded gained engagement keyOf cederBelow acquirerAbove cederAbove acquirerBelow partyTests dayTests loadTest stepTests placeTests samePowers pairs replacesWhole nextId filed actorTests categoryTests loadRanged loadable loadTests verdictOf fileAt effect stepNote step engagedAt
 edge =
     record {
       days = days;
@@ -144,12 +171,24 @@ edge =
       short-1320 = refl;
       long-1439 = refl;
       long-1440 = refl;
+      eve-1409 = refl;
+      eve-1410 = refl;
+      short-eve-1349 = refl;
+      short-eve-1350 = refl;
+      long-eve-1469 = refl;
+      long-eve-1470 = refl;
+      eve-of-short = (refl, refl);
+      eve-of-long = (refl, refl);
+      two-days-ahead = (refl, refl, refl);
+      unchecked-zero = (refl, refl);
       ceded-on = refl;
       replaced-35 = refl;
       replaced-35-later = refl;
+      replaced-35-eve = refl;
       acquired-back = refl;
       replaced-34 = refl;
       replaced-34-later = refl;
+      replaced-34-eve = refl;
       acquired-opposite = refl;
       replaced-34-opposite = refl;
       uncounted-differs = refl;

@@ -19,7 +19,7 @@ use Rattle.ledger.specs.Filing.{keyOf, cederBelow, acquirerAbove, cederA
 use Rattle.ledger.specs.Calls.{Outcome, moment, actorTests, categoryTests, loadRanged, loadTests, verdictOf, effect, refusedBy, stepNote, step, fileAt}
 use Rattle.ledger.specs.Asking.{engagedAt}
 use Rattle.ledger.proofs.Moving.{part-changed}
-use Rattle.ledger.proofs.Examples.{eic, first, second, category, plainDay, enters, noteWith, note, exchange, two, three}
+use Rattle.ledger.proofs.Examples.{eic, first, second, category, plainDay, enters, noteWith, note, exchange, twoOn, two, three}
 
 -- what of a record never changes: id, submitter, key, from-step and powers
 abbrev pub fixed : Rec → ℕ × ℕ × Key × ℕ × List ℕ
@@ -64,9 +64,16 @@ unfoldable pub replacedAt : Ledger → ℕ → ℕ → Ledger
 replacedAt l day minute =
     exchange first second plainDay 31 (step (exchange first second plainDay 40 l) (advance day minute) .ledger)
 
--- the day before, at minute 942 of the day itself, and at minute 1068 after 40 was filed at minute 942
+-- the day before, at its minute 1410, at minute 1420 after 40 was filed at minute 1410, at minute 942 of the day itself, and at minute
+-- 1068 after 40 was filed at minute 942
 unfoldable pub dayAhead : Ledger
 dayAhead = replacedAt (three 100) 0 0
+
+unfoldable pub lateOnEve : Ledger
+lateOnEve = replacedAt (three 100) 0 1410
+
+unfoldable pub twiceOnEve : Ledger
+twiceOnEve = replacedAt (twoOn plainDay 0 1410) 0 1420
 
 unfoldable pub sameStep : Ledger
 sameStep = replacedAt (two plainDay 942) plainDay 942
@@ -78,31 +85,39 @@ laterStep = replacedAt (two plainDay 942) plainDay 1068
 unfoldable pub pair : Ledger → ℕ → ℕ × ℕ
 pair l s = (engagedAt l first category plainDay s, engagedAt l second category plainDay s)
 
--- "An earlier V under the key becomes O if its from-step equals the new from-step or the day is after the clock's; otherwise it becomes P
--- and its until-step is the new from-step": the records whole, the newest first
+-- "An earlier V becomes O only if its from-step equals the new one or the new one is 0" (document 02, K2), "otherwise it becomes P and its
+-- until-step is the new from-step": the records whole, the newest first
 pub record Replaced : Type 0 where
   pub day-ahead : dayAhead .records ≡
       recordOf 4 1 validated 0 48 31 ∷ recordOf 3 0 answered 0 48 31 ∷ recordOf 2 1 obsolete 0 48 40 ∷ recordOf 1 0 answered 0 48 40 ∷ []
+  pub late-on-eve : lateOnEve .records ≡
+      recordOf 4 1 validated 1 48 31 ∷ recordOf 3 0 answered 1 48 31 ∷ recordOf 2 1 updated 0 1 40 ∷ recordOf 1 0 answered 0 48 40 ∷ []
+  pub twice-on-eve : twiceOnEve .records ≡
+      recordOf 4 1 validated 1 48 31 ∷ recordOf 3 0 answered 1 48 31 ∷ recordOf 2 1 obsolete 1 48 40 ∷ recordOf 1 0 answered 1 48 40 ∷ []
   pub same-step : sameStep .records ≡
       recordOf 4 1 validated 33 48 31 ∷ recordOf 3 0 answered 33 48 31 ∷ recordOf 2 1 obsolete 33 48 40 ∷ recordOf 1 0 answered 33 48 40 ∷ []
   pub later-step : laterStep .records ≡
       recordOf 4 1 validated 37 48 31 ∷ recordOf 3 0 answered 37 48 31 ∷ recordOf 2 1 updated 33 37 40 ∷ recordOf 1 0 answered 33 48 40 ∷ []
   -- an O moves nothing, and a P only before its until-step
   pub moved-ahead : (pair dayAhead 0 ≡ (29, 31)) × (pair dayAhead 47 ≡ (29, 31))
+  pub moved-on-eve : (pair lateOnEve 0 ≡ (20, 40)) × (pair lateOnEve 1 ≡ (29, 31)) × (pair twiceOnEve 0 ≡ (60, 0)) × (pair twiceOnEve 1 ≡ (29, 31))
   pub moved-same : (pair sameStep 32 ≡ (60, 0)) × (pair sameStep 33 ≡ (29, 31))
   pub moved-later : (pair laterStep 32 ≡ (60, 0)) × (pair laterStep 36 ≡ (20, 40)) × (pair laterStep 37 ≡ (29, 31))
-  -- a day after the clock's is enough, whatever the from-step
-  pub day-alone : ruleThree (moment 0 0) key (recordOf 2 1 validated 5 48 40) ≡ recordOf 2 1 obsolete 5 48 40
+  -- a new from-step of 0 is enough, whatever the earlier one
+  pub zero-alone : ruleThree (moment 0 0) key (recordOf 2 1 validated 5 48 40) ≡ recordOf 2 1 obsolete 5 48 40
 
 pub replaced : Replaced
-unfolding eic enters noteWith note exchange two three recordOf replacedAt dayAhead sameStep laterStep pair same placeOf firstFrom date tomorrow number valid monthLength leapDays beforeYear beforeMonth stepsOf lastSunday firstCounted isCode isCategory categoryText inPlaces actorAt categoryAt hasLoad loaded approved moved power acquired ceded gained engagement keyOf cederBelow acquirerAbove cederAbove acquirerBelow partyTests dayTests loadTest stepTests placeTests samePowers pairs replacesWhole nextId filed actorTests categoryTests loadRanged loadable loadTests verdictOf fileAt effect stepNote step engagedAt
+unfolding eic enters noteWith note exchange two three recordOf replacedAt dayAhead lateOnEve twiceOnEve sameStep laterStep pair same placeOf firstFrom date tomorrow number valid monthLength leapDays beforeYear beforeMonth stepsOf lastSunday firstCounted isCode isCategory categoryText inPlaces actorAt categoryAt hasLoad loaded approved moved power acquired ceded gained engagement keyOf cederBelow acquirerAbove cederAbove acquirerBelow partyTests dayTests loadTest stepTests placeTests samePowers pairs replacesWhole nextId filed actorTests categoryTests loadRanged loadable loadTests verdictOf fileAt effect stepNote step engagedAt
 replaced =
     record {
       day-ahead = refl;
+      late-on-eve = refl;
+      twice-on-eve = refl;
       same-step = refl;
       later-step = refl;
       moved-ahead = (refl, refl);
+      moved-on-eve = (refl, refl, refl, refl);
       moved-same = (refl, refl);
       moved-later = (refl, refl, refl);
-      day-alone = refl;
+      zero-alone = refl;
     }

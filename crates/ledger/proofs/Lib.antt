@@ -15,6 +15,7 @@ pub mod Once
 pub mod Examples
 pub mod Winter
 pub mod Witness
+pub mod Eve
 pub mod Orders
 pub mod Filings
 pub mod Bounds

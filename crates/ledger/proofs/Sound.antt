@@ -1,6 +1,6 @@
--- Every ledger that calls led to is sound: parties are enrolled, spans are as the statuses say, and what an actor has
--- covers what it cedes and, less that, is at most its approved power. No call changes an engagement at a step that the
--- clock, as it stands after the call, no longer lets count.
+-- Every ledger that calls led to is sound: the clock stands at a minute of its day, parties are enrolled, spans are as the
+-- statuses say, and what an actor has covers what it cedes and, less that, is at most its approved power. No call changes an
+-- engagement at a step that the clock, as it stands after the call, no longer lets count.
 use mathlib.Core.Path.{_≡_, refl, sym, _∙_}
 use mathlib.Core.Bool.{Bool, true, false, cond, _&&_, false≢true, true≢false, and-false}
 use mathlib.Core.List.{List}
@@ -11,8 +11,8 @@ use lib.ListN.{getD, length-append}
 use borrow.Author.Tests.{eqb-true}
 use Rattle.lists.proofs.All.{All, all-none, all-also}
 use Rattle.calendar.specs.Steps.{stepsOf}
-use Rattle.calendar.specs.Clocks.{firstCounted, counts}
-use Rattle.calendar.proofs.Clocks.{counts-from, day-mono, first-mono, loadable-counts}
+use Rattle.calendar.specs.Clocks.{firstCounted, counts, isMoment}
+use Rattle.calendar.proofs.Clocks.{counts-from, fresh-moment, day-mono, first-mono, ended-mono, loadable-counts}
 use Rattle.notification.specs.Forms.{inPlaces}
 use Rattle.ledger.specs.Statuses.{updated}
 use Rattle.ledger.specs.Call.{Call}
@@ -32,13 +32,14 @@ Bound l a z d s =
     (ceded (l .records) a z d s ≤ gained l a z d s) × (gained l a z d s ≤ approved (l .loads) a z d + ceded (l .records) a z d s)
 
 pub record Sound (l : Ledger) : Type 0 where
+  pub at-moment : isMoment (l .clock) ≡ true
   pub parties : Parties l
   pub spans : Spans l
   pub bounds : (a z d s : ℕ) → s < stepsOf d → Bound l a z d s
 
 pub sound-fresh : Sound fresh
 unfolding gained loaded acquired ceded moved
-sound-fresh = record { parties = all-none; spans = all-none; bounds = λ a z d s h. omega arith }
+sound-fresh = record { at-moment = fresh-moment; parties = all-none; spans = all-none; bounds = λ a z d s h. omega arith }
 
 -- ---- enrolments and advances touch no power
 
@@ -51,6 +52,7 @@ module _ (l : Ledger) (k : Sound l) where
   unfolding gained
   sound-actor code first last =
       record {
+        at-moment = k .at-moment;
         parties = more-parties (simp length-append (omega arith)) (omega arith) (k .parties);
         spans = k .spans;
         bounds = k .bounds;
@@ -60,6 +62,7 @@ module _ (l : Ledger) (k : Sound l) where
   unfolding gained
   sound-category text =
       record {
+        at-moment = k .at-moment;
         parties = more-parties (omega arith) (simp length-append (omega arith)) (k .parties);
         spans = k .spans;
         bounds = k .bounds;
@@ -69,6 +72,7 @@ module _ (l : Ledger) (k : Sound l) where
   unfolding gained
   sound-clock day minute ok =
       record {
+        at-moment = ok .moment;
         parties = k .parties;
         spans = all-also (λ r sp. record { whole = sp .whole; past = λ e h. later r sp e h }) (k .spans);
         bounds = k .bounds;
@@ -77,7 +81,7 @@ module _ (l : Ledger) (k : Sound l) where
       later : (r : Rec) → Span (l .clock) r → r .status ≡ updated → day ≤ r .key .day → r .until ≤ firstCounted (moment day minute) (r .key .day)
       later r sp e h =
           let d = day-mono (l .clock) (moment day minute) (ok .forward) in
-          omega (arith, sp .past e (omega arith), first-mono (l .clock) (moment day minute) (ok .forward) (r .key .day) h)
+          omega (arith, sp .past e (omega arith), first-mono (l .clock) (moment day minute) (ok .forward) (k .at-moment) (r .key .day) h)
 
 -- ---- a load
 
@@ -85,7 +89,7 @@ module _ (l : Ledger) (actor category : List ℕ) (day most : ℕ) (ps : List �
   sound-load : Sound l → Sound (withLoad l (loadOf l actor category day most ps))
   unfolding gained loaded approved
   sound-load k =
-      record { parties = k .parties; spans = k .spans; bounds = λ a z d s below. go a z d s (k .bounds a z d s below) (loadIs a z d (loadOf l actor category day most ps)) refl }
+      record { at-moment = k .at-moment; parties = k .parties; spans = k .spans; bounds = λ a z d s below. go a z d s (k .bounds a z d s below) (loadIs a z d (loadOf l actor category day most ps)) refl }
     where
       go : (a z d s : ℕ) → Bound l a z d s → (b : Bool) → loadIs a z d (loadOf l actor category day most ps) ≡ b →
           (ceded (l .records) a z d s ≤ cond b (getD (inPlaces ps) s 0) (loaded (l .loads) a z d s) + acquired (l .records) a z d s) ×
@@ -156,6 +160,7 @@ module _ (l : Ledger) (by : ℕ) (k : Key) (ps : List ℕ) (ok : Fileable l by k
   sound-filing : (paired : Bool) → Sound (filedIn l by k ps paired)
   sound-filing paired =
       record {
+        at-moment = sound .at-moment;
         parties = parties-after l by k ps ok (sound .parties) (sound .spans) paired;
         spans = spans-after l by k ps ok (sound .parties) (sound .spans) paired;
         bounds = λ x z d s below. go paired x z d s below (live l k paired z d s) refl;
@@ -218,3 +223,18 @@ frozen-kept l k =
 pub frozen-step : (l : Ledger) (c : Call) → Sound l → (a z d s : ℕ) → s < stepsOf d → counts (step l c .ledger .clock) d s ≡ false →
     engagement (step l c .ledger) a z d s ≡ engagement l a z d s
 frozen-step l c k = step-kept l (Frozen l) (frozen-kept l k) c
+
+-- and such a step never counts again
+pub ended-step : (l : Ledger) (c : Call) → Sound l → (d s : ℕ) → counts (l .clock) d s ≡ false → counts (step l c .ledger .clock) d s ≡ false
+unfolding fileAt
+ended-step l c k d s out =
+    step-kept l (λ m. counts (m .clock) d s ≡ false)
+    (record {
+      refused = out;
+      actor = λ code first last ok. out;
+      category = λ text ok. out;
+      load = λ a z day most ps ok. out;
+      filing = λ u n ok. out;
+      clock = λ day minute ok. ended-mono (l .clock) (moment day minute) (ok .forward) (k .at-moment) d s out;
+    })
+    c

@@ -4,7 +4,7 @@ use mathlib.Core.Bool.{true, false}
 use mathlib.Core.List.{List, [], _∷_}
 use Prim.Native.Nat.{ℕ, _+_, _≤_, _<_}
 use native.Mathlib.Omega.{arith}
-use lib.ListN.{length, getD}
+use lib.ListN.{length, getD, length-append}
 use borrow.Author.Tests.{lt-ltb}
 use Rattle.lists.specs.Sums.{sumTo, sumOver}
 use Rattle.lists.proofs.Sums.{sum-balance, over-swap}
@@ -19,7 +19,7 @@ use Rattle.ledger.specs.Reading.{Event, events, isAmong, actorsOf, categ
 use Rattle.ledger.specs.Whole.{Asked, Holds, Demand3, after, answersTo}
 use Rattle.ledger.specs.declared.Engaged.the-variants.{Power}
 use Rattle.ledger.proofs.Steps.{actorOf, step-kept}
-use Rattle.ledger.proofs.Sound.{Sound, sound-fresh, sound-step, frozen-step}
+use Rattle.ledger.proofs.Sound.{Sound, sound-fresh, sound-step, frozen-step, ended-step}
 use Rattle.ledger.proofs.Names.{codes, codes-length, actor-known, category-known, actor-own, actor-kept, category-kept}
 use Rattle.ledger.proofs.Powers.{keyFrom, acquired-keys, ceded-keys}
 use Rattle.ledger.proofs.Readings.{Reads, reads-fresh}
@@ -125,17 +125,38 @@ kept-category l z h c =
     })
     c
 
+-- no call takes away an actor or a category
+more-known : (l : Ledger) (c : Call) →
+    (length (l .actors) ≤ length (step l c .ledger .actors)) × (length (l .categories) ≤ length (step l c .ledger .categories))
+unfolding fileAt
+more-known l c =
+    step-kept l (λ m. (length (l .actors) ≤ length (m .actors)) × (length (l .categories) ≤ length (m .categories)))
+    (record {
+      refused = (omega arith, omega arith);
+      actor = λ code first last ok. (simp length-append (omega arith), omega arith);
+      category = λ text ok. (omega arith, simp length-append (omega arith));
+      load = λ x z d m ps ok. (omega arith, omega arith);
+      filing = λ u n ok. (omega arith, omega arith);
+      clock = λ d m ok. (omega arith, omega arith);
+    })
+    c
+
 next-reads : (l : Ledger) (h : List Event) → Reads l h → Sound l → (c : Call) → Reads (step l c .ledger) (record { call = c; answer = step l c .answer } ∷ h)
 next-reads l h r k c = reads-step l h c (k .parties) (k .spans) r
 
+same-engaged : (l : Ledger) → Sound l → (c : Call) (a z : List ℕ) (d s : ℕ) → s < stepsOf d →
+    actorAt (l .actors) a < length (l .actors) → categoryAt (l .categories) z < length (l .categories) →
+    counts (step l c .ledger .clock) d s ≡ false → engagedAt (step l c .ledger) a z d s ≡ engagedAt l a z d s
+unfolding engagedAt
+same-engaged l k c a z d s below ka kz out =
+    ap₂ (λ i j. engagement (step l c .ledger) i j d s) (kept-actor l a ka c) (kept-category l z kz c) ∙
+    frozen-step l c k (actorAt (l .actors) a) (categoryAt (l .categories) z) d s below out
+
 freezes : (l : Ledger) (h : List Event) → Reads l h → Sound l → (c : Call) (a z : List ℕ) (d s : ℕ) → Asked h a z d s →
     counts (clockOf (record { call = c; answer = step l c .answer } ∷ h)) d s ≡ false → engagedAt (step l c .ledger) a z d s ≡ engagedAt l a z d s
-unfolding engagedAt
 freezes l h r k c a z d s q out =
-    let p = actorAt (l .actors) a in
-    let y = categoryAt (l .categories) z in
-    ap₂ (λ i j. engagement (step l c .ledger) i j d s) (kept-actor l a (known-actor l h r a (q .actor)) c) (kept-category l z (known-category l h r z (q .category)) c) ∙
-    frozen-step l c k p y d s (q .in-day) (ap (λ t. counts t d s) (next-reads l h r k c .clock) ∙ out)
+    same-engaged l k c a z d s (q .in-day) (known-actor l h r a (q .actor)) (known-category l h r z (q .category))
+    (ap (λ t. counts t d s) (next-reads l h r k c .clock) ∙ out)
 
 -- ---- what holds of a ledger that reads its events and is sound
 
@@ -162,3 +183,26 @@ pub demand3 : (cs : List Call) → Demand3 fresh cs
 demand3 cs =
     let p = keep cs fresh [] reads-fresh sound-fresh in
     holds (after fresh cs) (events cs (answersTo fresh cs) []) (p .0) (p .1)
+
+-- ---- "whichever call comes next", call after call: what no longer counts stays for good
+
+settles : (more : List Call) (l : Ledger) → Sound l → (a z : List ℕ) (d s : ℕ) → s < stepsOf d →
+    actorAt (l .actors) a < length (l .actors) → categoryAt (l .categories) z < length (l .categories) →
+    counts (l .clock) d s ≡ false → engagedAt (after l more) a z d s ≡ engagedAt l a z d s
+settles [] l k a z d s below ka kz out = refl
+settles (c ∷ more) l k a z d s below ka kz out =
+    let known = more-known l c in
+    let ended = ended-step l c k d s out in
+    settles more (step l c .ledger) (sound-step l c k) a z d s below
+    (omega (arith, kept-actor l a ka c, known .0)) (omega (arith, kept-category l z kz c, known .1)) ended ∙
+    same-engaged l k c a z d s below ka kz ended
+
+pub for-good : (cs more : List Call) (a z : List ℕ) (d s : ℕ) → Asked (events cs (answersTo fresh cs) []) a z d s →
+    counts (clockOf (events cs (answersTo fresh cs) [])) d s ≡ false →
+    engagedAt (after (after fresh cs) more) a z d s ≡ engagedAt (after fresh cs) a z d s
+for-good cs more a z d s q out =
+    let p = keep cs fresh [] reads-fresh sound-fresh in
+    let h = events cs (answersTo fresh cs) [] in
+    settles more (after fresh cs) (p .1) a z d s (q .in-day)
+    (known-actor (after fresh cs) h (p .0) a (q .actor)) (known-category (after fresh cs) h (p .0) z (q .category))
+    (ap (λ t. counts t d s) (p .0 .clock) ∙ out)

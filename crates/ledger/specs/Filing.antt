@@ -167,8 +167,8 @@ ruleTwo by k ps r = cond (answers by k ps r) (withStatus answered (r .until) r) 
 unfoldable pub pairs : ℕ → Key → List ℕ → List Rec → Bool
 pairs by k ps rs = some (answers by k ps) rs
 
--- rule 3: an earlier V under the key becomes O if its from-step equals the new one or the day is after the clock's (it is replaced whole),
--- otherwise P, and its until-step is the new from-step
+-- rule 3: an earlier V under the key becomes O if its from-step equals the new one or the new one is 0 (document 02, K2: it is replaced
+-- whole), otherwise P, and its until-step is the new from-step
 abbrev pub replaces : Key → Rec → Bool
 replaces k r = eqb (r .status) validated && underKey k r
 

@@ -63,7 +63,7 @@ pub enum StateRefusal {
     There,
     // 38: the clock would go back
     Back,
-    // 39: the load's day isn't after the clock's
+    // 39: the load's day isn't after the clock's, or its first counted step isn't 0
     LoadDay,
     // 40, 41: no record of that id; the asker isn't a party to it
     NoRecord,

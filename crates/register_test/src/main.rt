@@ -51,5 +51,6 @@ fn main() {
     run(b"full");
     run(b"records");
     run(b"histories");
+    run(b"eve");
     run(b"winter");
 }

@@ -7,7 +7,7 @@ use peer::calendar::{day_of, steps};
 
 use crate::calls::{make, Answer, Call};
 use crate::sides::Side;
-use crate::tally::{Listed, Tally};
+use crate::tally::{Late, Listed, Tally};
 
 /// Where two sides differ.
 pub struct Difference {
@@ -29,6 +29,8 @@ struct Held {
 /// What the list has accepted so far, by the left side's answers.
 #[derive(Default)]
 struct Seen {
+    /// The clock's day.
+    day: u32,
     actors: Vec<Vec<u8>>,
     categories: Vec<Vec<u8>>,
     days: BTreeSet<u32>,
@@ -73,14 +75,21 @@ pub fn run<A: Side, B: Side>(calls: &[Call], tally: &mut Tally) -> Result<(), Di
 impl Seen {
     fn note(&mut self, call: &Call, answer: &Answer, tally: &mut Tally) {
         match (call, answer) {
+            (Call::Load { day, .. }, Answer::No { number: 39, .. }) if *day == self.day + 1 => tally.late(Late::Load),
             (_, Answer::No { .. } | Answer::NoButWrote { .. }) => {}
-            (Call::Advance { day, .. }, _) => self.days.extend([day.saturating_sub(1), *day, day + 1]),
+            (Call::Advance { day, .. }, _) => {
+                self.day = *day;
+                self.days.extend([day.saturating_sub(1), *day, day + 1]);
+            }
             (Call::EnrolActor { code, .. }, _) => self.actors.push(code.clone()),
             (Call::EnrolCategory { text }, _) => self.categories.push(text.clone()),
             (Call::Load { day, .. }, _) => self.days.extend([*day]),
             (Call::File { name, .. }, Answer::Filed { status, from, .. }) => {
                 let day = day_of(&name[38..46]).expect("an accepted name has a date");
                 tally.filed(steps(day), *from);
+                if *from == 1 {
+                    tally.late(Late::Filed(steps(self.day as u16), steps(day)));
+                }
                 let (ceder, acquirer) = (name[4..20].to_vec(), name[21..37].to_vec());
                 self.records.push(Held { ceder, acquirer, day, status: *status });
                 tally.change('-', *status);
@@ -102,9 +111,19 @@ fn records<A: Side, B: Side>(
 ) -> Result<(), Difference> {
     for (id, Held { ceder, status, .. }) in (1..).zip(&mut seen.records) {
         let answer = left.record(ceder, id);
-        if let Some(now) = answer.as_ref().ok().map(|shown| shown.status as char).filter(|now| now != status) {
-            tally.change(*status, now);
-            *status = now;
+        if let Some((shown, now)) = answer.as_ref().ok().map(|shown| (shown, shown.status as char)) {
+            if now != *status {
+                tally.change(*status, now);
+                *status = now;
+                match (now, shown.from, shown.until) {
+                    ('P', 0, 1) => tally.late(Late::Updated),
+                    ('O', 1, _) => tally.late(Late::Obsolete),
+                    _ => {}
+                }
+            }
+            if (now, shown.until, shown.day) == ('P', 1, seen.day) {
+                tally.late(Late::Midnight);
+            }
         }
         same(made, answer, right.record(ceder, id), || format!("record {id} for its ceder"))?;
     }

@@ -28,6 +28,9 @@ const STARTS: [&[u8; 8]; 14] = [
     b"20991231",
 ];
 
+/// Days about whose last half hour a list is: of 46 and 50 steps, and the days before them.
+const EVES: [&[u8; 8]; 4] = [b"20210327", b"20210328", b"20211030", b"20211031"];
+
 const CATEGORIES: [&[u8]; 6] = [b"13120", b"13120C", b"30090C", b"00000", b"99999", b"13121"];
 
 /// Powers that meet the bounds of the approved ones often.
@@ -72,6 +75,7 @@ pub fn list(random: &mut Random, number: u64) -> Vec<Call> {
         filings: Vec::new(),
     };
     match number % 40 {
+        3 | 23 => scene.eve(start),
         7 => scene.all_records(start),
         17 => scene.all_loads(start),
         27 => scene.all_enrolled(start),
@@ -144,6 +148,30 @@ impl Scene<'_> {
         }
     }
 
+    /// Filings and loads for the next days about the last half hour of the clock's, and what becomes of them after midnight.
+    fn eve(&mut self, start: u32) {
+        let eve = match self.random.below(3) {
+            0 => start.min(LAST_DAY - 3),
+            _ => day_of(*self.random.pick(&EVES)).expect("a date") as u32,
+        };
+        let last = 30 * (steps_of(eve) as u32 - 1);
+        self.begin_at(eve, 600, 3, 1);
+        self.lasting_contracts();
+        self.days = vec![eve + 1, eve + 2];
+        self.load_all();
+        for (day, minute) in [(eve, last - 1), (eve, last), (eve, last + 29), (eve + 1, 0), (eve + 1, 30)] {
+            let minute = if self.random.one_in(3) { minute + self.random.below(20) as u32 } else { minute };
+            self.advance(day, minute);
+            for _ in 0..self.random.within(4, 12) {
+                match self.random.below(10) {
+                    0 => self.any_load(),
+                    1 => self.question(),
+                    _ => self.filing(),
+                }
+            }
+        }
+    }
+
     /// More loads than there are places.
     fn all_loads(&mut self, start: u32) {
         self.begin(start.min(LAST_DAY - 12), 8, 4);
@@ -176,9 +204,13 @@ impl Scene<'_> {
         }
     }
 
-    /// The clock, the actors and the categories.
     fn begin(&mut self, start: u32, actors: usize, categories: usize) {
         let minute = self.random.below(1440) as u32;
+        self.begin_at(start, minute, actors, categories);
+    }
+
+    /// The clock, the actors and the categories.
+    fn begin_at(&mut self, start: u32, minute: u32, actors: usize, categories: usize) {
         self.advance(start, minute);
         self.days =
             [1, self.random.within(1, 2), self.random.within(1, 8)].map(|d| (start + d as u32).min(LAST_DAY)).to_vec();

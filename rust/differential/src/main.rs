@@ -2,7 +2,7 @@
 //! history. Then the test of the test: each faulty copy of the peer must be told from the register by the same lists.
 //!
 //! `LISTS` and `SEED` set how many lists there are and which; the seed of a run is printed. Status 1 says that something differs, that
-//! a refusal, a change of a status or a kind of history was never met, or that a fault was not found; the last two are asked of long
+//! a refusal, a change of a status, a kind of history or a case of the last half hour was never met, or that a fault was not found; the last two are asked of long
 //! runs only.
 
 mod calls;
@@ -90,7 +90,8 @@ faults!(
     neutral_hour_rounded_up only_32_and_33_on_a_replacement pairs_counted_steps_only opposite_keys_netted
     old_power_subtracted_twice updated_goes_on_counting own_created_not_deleted place_from_the_first_counted_step
     lines_counted_after_the_fault history_in_the_order_of_filing history_latest_day_first
-    history_highest_id_first_within_a_day last_place_of_a_buffer_left_out
+    history_highest_id_first_within_a_day last_place_of_a_buffer_left_out neutral_hour_ends_at_midnight
+    step_count_of_the_delivery_day tomorrows_exchange_obsolete load_for_tomorrow_in_the_last_half_hour
 );
 
 fn failed(what: impl Display) -> ExitCode {

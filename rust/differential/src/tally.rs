@@ -1,4 +1,5 @@
-//! How often each answer, each refusal, each change of a status and each kind of history was met.
+//! How often each answer, each refusal, each change of a status, each kind of history and each case of a day's last half hour was
+//! met.
 
 use std::collections::{BTreeMap, BTreeSet};
 
@@ -68,6 +69,33 @@ const BUFFERS: [(&str, fn(usize, usize) -> bool); 4] = [
     ("longer", |length, count| length > count && count > 0),
 ];
 
+/// What happens in the last half hour of a day, by K2 of document 02, to what is of the next one.
+#[derive(Clone, Copy)]
+pub enum Late {
+    /// A filing from step 1 on: the steps of the clock's day and of the next one.
+    Filed(usize, usize),
+    /// A load of the next day is refused by 39.
+    Load,
+    /// A V from step 0 becomes P until step 1.
+    Updated,
+    /// A V from step 1 becomes O.
+    Obsolete,
+    /// A P until step 1 is there when the clock stands on its day.
+    Midnight,
+}
+
+const LATE: [(&str, fn(Late) -> bool); 9] = [
+    ("filings between days of 48 steps", |late| matches!(late, Late::Filed(48, 48))),
+    ("filings on a day of 46", |late| matches!(late, Late::Filed(46, _))),
+    ("filings on a day of 50", |late| matches!(late, Late::Filed(50, _))),
+    ("filings for a day of 46", |late| matches!(late, Late::Filed(_, 46))),
+    ("filings for a day of 50", |late| matches!(late, Late::Filed(_, 50))),
+    ("loads of tomorrow refused by 39", |late| matches!(late, Late::Load)),
+    ("V to P until 1", |late| matches!(late, Late::Updated)),
+    ("V from 1 to O", |late| matches!(late, Late::Obsolete)),
+    ("P until 1 seen after midnight", |late| matches!(late, Late::Midnight)),
+];
+
 #[derive(Default)]
 pub struct Tally {
     /// By call and refusal, 0 for an accepted call.
@@ -78,6 +106,7 @@ pub struct Tally {
     listed: u64,
     histories: [u64; HISTORIES.len()],
     buffers: [u64; BUFFERS.len()],
+    late: [u64; LATE.len()],
 }
 
 impl Tally {
@@ -110,6 +139,10 @@ impl Tally {
             self.listed += 1;
             self.histories.iter_mut().zip(HISTORIES).for_each(|(count, (_, is))| *count += is(mine) as u64);
         }
+    }
+
+    pub fn late(&mut self, late: Late) {
+        self.late.iter_mut().zip(LATE).for_each(|(count, (_, is))| *count += is(late) as u64);
     }
 
     pub fn calls(&self) -> u64 {
@@ -165,6 +198,14 @@ impl Tally {
             print!(" {what} {count}");
             if count == 0 {
                 wrong.push(format!("no buffer of a history was {what}"));
+            }
+        }
+        println!();
+        print!("in the last half hour:");
+        for ((what, _), count) in LATE.iter().zip(self.late) {
+            print!(" {what} {count};");
+            if count == 0 {
+                wrong.push(format!("in the last half hour there were no {what}"));
             }
         }
         println!();

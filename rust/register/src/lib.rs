@@ -154,7 +154,8 @@ impl Register {
     }
 
     /// Gives one actor, category and day an approved power and one loaded power for each step, none above the approved one; answers how
-    /// many loads there now are. Refused by 10, 22, 23, 39, 37 and 36.
+    /// many loads there now are. Refused by 10, 22, 23, 39, 37 and 36. A day can be loaded if it is after the clock's and all of it still
+    /// counts: 39 refuses the next day in the last half hour of the clock's.
     pub fn load(
         &mut self, actor: impl AsRef<[u8]>, category: impl AsRef<[u8]>, day: Day, approved: u32, powers: &[u32],
     ) -> Result<u32, Refusal> {
@@ -165,6 +166,40 @@ impl Register {
 
     /// Files a notification: the submitter's code, the file's name and its body. An accepted filing makes one record. Refused by 1 to 8,
     /// then 20 to 36.
+    ///
+    /// A filing is about the steps of its day that still count: of the clock's day those from the second after the one that runs, of the
+    /// next day all, but in the last half hour before it all except step 0, of later days all.
+    ///
+    /// ```
+    /// # use register::{Day, Notification, Refusal, Register, Status, BODY_LENGTH, NAME_LENGTH};
+    /// # let (north, south) = ("17X100A100R0000L", "17X100A100R0001J");
+    /// # let today = Day::of("20210120").unwrap();
+    /// # let tomorrow = Day(today.0 + 1);
+    /// # let mut register = Register::new();
+    /// # register.enrol_actor(north, today, tomorrow)?;
+    /// # register.enrol_actor(south, today, tomorrow)?;
+    /// # register.enrol_category("13120")?;
+    /// # register.load(north, "13120", tomorrow, 100, &[60; 48])?;
+    /// # register.load(south, "13120", tomorrow, 100, &[0; 48])?;
+    /// // Both file 40 MW for tomorrow, and in the last half hour of today they replace it by 31 MW.
+    /// for (minute, power, first) in [(1409, 40, 0), (1410, 31, 1)] {
+    ///     register.advance(today, minute)?;
+    ///     let exchange = Notification::new(north.parse()?, south.parse()?, "13120".parse()?, tomorrow, &[power; 48]);
+    ///     // ... written
+    /// #   let (mut name, mut body) = ([0; NAME_LENGTH], [0; BODY_LENGTH]);
+    /// #   let (a, b) = exchange.write(&mut name, &mut body)?;
+    /// #   let (name, body) = (&name[..a], &body[..b]);
+    ///     for actor in [north, south] {
+    ///         assert_eq!(register.file(actor, name, body)?.from, first);
+    ///     }
+    /// }
+    /// let updated = register.record(south, 2)?;
+    /// assert_eq!((updated.status, updated.from, updated.until), (Status::Updated, 0, 1));
+    /// register.advance(tomorrow, 0)?;
+    /// assert_eq!(register.engagement(south, "13120", tomorrow, 0)?, 40);
+    /// assert_eq!(register.engagement(south, "13120", tomorrow, 1)?, 31);
+    /// # Ok::<(), Refusal>(())
+    /// ```
     pub fn file(
         &mut self, submitter: impl AsRef<[u8]>, name: impl AsRef<[u8]>, body: impl AsRef<[u8]>,
     ) -> Result<Filed, Refusal> {

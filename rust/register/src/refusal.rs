@@ -1,4 +1,4 @@
-//! Refusals, in the words of document 01's two tables.
+//! Refusals, in the words of document 01's two tables and, for 39, of document 02 as well.
 
 use core::error::Error;
 use core::fmt;
@@ -57,7 +57,7 @@ impl Refusal {
             36 => "every place is taken, or a lent buffer is too short",
             37 => "the actor, category or load is there already",
             38 => "the clock would go back",
-            39 => "the load's day isn't after the clock's",
+            39 => "the load's day isn't after the clock's, or its first counted step isn't 0",
             40 => "there is no record of that id",
             41 => "the asker isn't a party to the record",
             _ => "a number that document 01 doesn't have",

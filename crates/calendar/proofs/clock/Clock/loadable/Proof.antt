@@ -1,12 +1,15 @@
--- `clock::Clock::loadable` meets its contract.
+-- `clock::Clock::loadable` meets its contract: its tests are the definition's.
 use borrow.Author.Needs.{needs}
 use Rattle.calendar.specs.Clocks.{loadable}
 use Rattle.calendar.proofs.clock.Clock.loadable.Statement.{statement}
 use Rattle.calendar.proofs.clock.Clock.loadable.Tie as tie
 
+first-counted-requires : tie.Need-first-counted-requires
+first-counted-requires c κs = search needs
+
 returns : tie.Need-returns
 unfolding loadable
-returns c = search needs
+returns c = cc
 
 pub loadable-spec : {M : Type 1} → statement M
-loadable-spec = tie.close (tie.spec returns)
+loadable-spec = tie.close (tie.spec first-counted-requires returns)
