@@ -2,8 +2,8 @@
 //! history. Then the test of the test: each faulty copy of the peer must be told from the register by the same lists.
 //!
 //! `LISTS` and `SEED` set how many lists there are and which; the seed of a run is printed. Status 1 says that something differs, that
-//! a refusal, a change of a status, a kind of history or a case of the last half hour was never met, or that a fault was not found; the last two are asked of long
-//! runs only.
+//! a refusal, a change of a status, a kind of history or a case of the last half hour was never met, or that a fault was not found; the
+//! last two are asked of long runs only.
 
 mod calls;
 mod compare;
