@@ -10,12 +10,9 @@ use lib.ListN.{length, length-append}
 use Rattle.lists.proofs.Tests.{by-test}
 use Rattle.calendar.specs.Texts.{digitOf}
 use Rattle.refusals.specs.Numbers.{inputNumber, stateNumber}
-use Rattle.refusals.specs.declared.InputRefusal.{InputRefusal}
-use Rattle.refusals.specs.declared.InputRefusal.the-variants.{Name, Body, Header, Differs, Lines, Labels, Power, Zeros, Form, Range}
-use Rattle.refusals.specs.declared.StateRefusal.{StateRefusal}
-use Rattle.refusals.specs.declared.StateRefusal.the-variants.{CederUnknown, AcquirerUnknown, ActorUnknown, CategoryUnknown, NotParty, OneActor, DayPast, DayFar, NoStep, AcquirerContract, CederContract, NoLoad, CederBelow, AcquirerAbove, CederAbove, AcquirerBelow, Full, There, Back, LoadDay, NoRecord, NotAsker}
 use Rattle.refusals.specs.declared.Refusal.{Refusal}
 use Rattle.refusals.specs.declared.Refusal.the-variants.{Input, State}
+use Rattle.refusals.proofs.Tables.{number-two}
 use Rattle.answers.specs.declared.Said.{Said}
 use Rattle.answers.specs.Values.{noLetter, saidOk, saidRefusal, saidNo}
 use Rattle.script.specs.Numbers.{decimalIn, decimal}
@@ -112,45 +109,9 @@ no-short number place h =
     (λ t. rw t (omega (arith, values-none noLetter 0, length-append (okText s) (10 ∷ []))))
     (λ t. rw t (omega (arith, length-append (noText s) (10 ∷ []), length-append (decimal number) (44 ∷ decimal place), digits-two number h, digits-most 20 place)))
 
-input-two : (f : InputRefusal) → inputNumber f < 100
-input-two Name = omega arith
-input-two Body = omega arith
-input-two Header = omega arith
-input-two Differs = omega arith
-input-two Lines = omega arith
-input-two Labels = omega arith
-input-two Power = omega arith
-input-two Zeros = omega arith
-input-two Form = omega arith
-input-two Range = omega arith
-
-state-two : (f : StateRefusal) → stateNumber f < 100
-state-two CederUnknown = omega arith
-state-two AcquirerUnknown = omega arith
-state-two ActorUnknown = omega arith
-state-two CategoryUnknown = omega arith
-state-two NotParty = omega arith
-state-two OneActor = omega arith
-state-two DayPast = omega arith
-state-two DayFar = omega arith
-state-two NoStep = omega arith
-state-two AcquirerContract = omega arith
-state-two CederContract = omega arith
-state-two NoLoad = omega arith
-state-two CederBelow = omega arith
-state-two AcquirerAbove = omega arith
-state-two CederAbove = omega arith
-state-two AcquirerBelow = omega arith
-state-two Full = omega arith
-state-two There = omega arith
-state-two Back = omega arith
-state-two LoadDay = omega arith
-state-two NoRecord = omega arith
-state-two NotAsker = omega arith
-
 pub refusal-short : (r : Refusal) → Short (saidNo r)
-refusal-short (Input f p) = no-short (inputNumber f) p (input-two f)
-refusal-short (State f p) = no-short (stateNumber f) p (state-two f)
+refusal-short (Input f p) = no-short (inputNumber f) p (number-two (Input f p))
+refusal-short (State f p) = no-short (stateNumber f) p (number-two (State f p))
 
 -- AN ANSWER'S LINE, whatever its number
 pub answer-short : (n : ℕ) (said : Said) → Short said → length (answerLine n said) ≤ 64

@@ -1,7 +1,8 @@
--- Document 01's number and place of each refusal ("Refusals that come from the input", "Refusals that come from the state").
+-- Document 01's number and place of each refusal ("Refusals that come from the input", "Refusals that come from the state"), and those of
+-- document 02.
 use Prim.Native.Nat.{ℕ}
 use Rattle.refusals.specs.declared.InputRefusal.{InputRefusal}
-use Rattle.refusals.specs.declared.InputRefusal.the-variants.{Name, Body, Header, Differs, Lines, Labels, Power, Zeros, Form, Range}
+use Rattle.refusals.specs.declared.InputRefusal.the-variants.{Name, Body, Header, Differs, Lines, Labels, Power, Zeros, Form, Range, Object, Origin}
 use Rattle.refusals.specs.declared.StateRefusal.{StateRefusal}
 use Rattle.refusals.specs.declared.StateRefusal.the-variants.{CederUnknown, AcquirerUnknown, ActorUnknown, CategoryUnknown, NotParty, OneActor, DayPast, DayFar, NoStep, AcquirerContract, CederContract, NoLoad, CederBelow, AcquirerAbove, CederAbove, AcquirerBelow, Full, There, Back, LoadDay, NoRecord, NotAsker}
 use Rattle.refusals.specs.declared.Refusal.{Refusal}
@@ -18,6 +19,8 @@ inputNumber Power = 7
 inputNumber Zeros = 8
 inputNumber Form = 9
 inputNumber Range = 10
+inputNumber Object = 42
+inputNumber Origin = 43
 
 abbrev pub stateNumber : StateRefusal → ℕ
 stateNumber CederUnknown = 20

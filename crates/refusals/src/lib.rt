@@ -4,7 +4,7 @@ ghost use Rattle.refusals.specs.Numbers.{inputNumber, stateNumber, numbe
 
 pub mod trying;
 
-// Refusals that come from the input, 1 to 10. (11 is the program's alone.)
+// Refusals that come from the input, 1 to 10, 42 and 43. (11 is the program's alone.)
 pub enum InputRefusal {
     // 1: the name isn't of that form
     Name,
@@ -26,6 +26,10 @@ pub enum InputRefusal {
     Form,
     // 10: a day, minute, step, power, contract or count of steps is outside its range
     Range,
+    // 42: the text is over its length, or isn't the object of a notification, apart from step count, labels and powers
+    Object,
+    // 43: the origin member isn't the submitter
+    Origin,
 }
 
 // Refusals that come from the state, 20 to 41.
@@ -96,6 +100,8 @@ fn input_number(f: InputRefusal) -> u32
         InputRefusal::Zeros => 8,
         InputRefusal::Form => 9,
         InputRefusal::Range => 10,
+        InputRefusal::Object => 42,
+        InputRefusal::Origin => 43,
     }
 }
 
