@@ -25,7 +25,7 @@ use Rattle.calendar.proofs.Reading.{is-day}
 reads : ℕ → Bool
 reads n = eqb (pairOf (tens n) (ones n)) n
 
-pair-digits : (n : ℕ) → n < 100 → pairOf (tens n) (ones n) ≡ n
+pub pair-digits : (n : ℕ) → n < 100 → pairOf (tens n) (ones n) ≡ n
 unfolding reads pairOf
 pair-digits n h = eqb→eq (pairOf (tens n) (ones n)) n (below reads 100 tt n h)
 
@@ -41,7 +41,7 @@ digits-sum true a b n e p h =
     (omega arith, omega arith)
 digits-sum false a b n e p h = absurd (omega arith)
 
-digits-pair : (a b n : ℕ) → pairOf a b ≡ n → n < 100 → (a ≡ tens n) × (b ≡ ones n)
+pub digits-pair : (a b n : ℕ) → pairOf a b ≡ n → n < 100 → (a ≡ tens n) × (b ≡ ones n)
 unfolding pairOf
 digits-pair a b n p h = digits-sum (digit a && digit b) a b n refl p h
 

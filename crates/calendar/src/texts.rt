@@ -27,7 +27,7 @@ pub enum Day {
 }
 
 // The last digit of a number.
-pub(crate) fn digit(n: u32) -> u8
+pub fn digit(n: u32) -> u8
     ensures { λ r. ⌜ r ≡ digitOf n ⌝ }
 {
     (ZERO + n % 10) as u8
@@ -60,7 +60,7 @@ pub fn text_of(day: u32) -> [u8; 8]
 }
 
 // Two bytes as a number below 100, and 100 where they are no digits.
-fn pair(a: u8, b: u8) -> u32
+pub fn pair(a: u8, b: u8) -> u32
     ensures { λ r. ⌜ r ≡ pairOf a b ⌝ }
 {
     if (b'0' <= a) & (a <= b'9') & ((b'0' <= b) & (b <= b'9')) {

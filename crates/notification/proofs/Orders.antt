@@ -16,15 +16,17 @@ use Rattle.notification.specs.Writing.{noteTests, tooShort, writeVerdict
 use Rattle.notification.specs.Reading.{nameKey, stepLines, hasLabels, firstBad, lineRefusal, fileTests}
 use Rattle.notification.specs.declared.Notification.{Notification}
 
+-- 6 is tried before 7, and both have the place of the line or step at fault: by whether its labels are right
+pub labels-first : (labels : Bool) (place : ℕ) →
+    let r = cond (not labels) (Input Labels place) (Input Power place) in
+    (numberOf r ≡ cond labels 7 6) × (placeOf r ≡ place)
+labels-first true place = (refl, refl)
+labels-first false place = (refl, refl)
+
 -- "6 and 7 are tried line by line, 6 first" (place: the line, the header being 1): at the line of step k
 pub line-refused : (steps : ℕ) (ls : List (List ℕ)) (k : ℕ) →
     (numberOf (lineRefusal steps ls k) ≡ cond (hasLabels steps k (getD ls k [])) 7 6) × (placeOf (lineRefusal steps ls k) ≡ k + 2)
-line-refused steps ls k = go (hasLabels steps k (getD ls k []))
-  where
-    go : (b : Bool) → (numberOf (cond (not b) (Input Labels (k + 2)) (Input Power (k + 2))) ≡ cond b 7 6)
-        × (placeOf (cond (not b) (Input Labels (k + 2)) (Input Power (k + 2))) ≡ k + 2)
-    go true = (refl, refl)
-    go false = (refl, refl)
+line-refused steps ls k = labels-first (hasLabels steps k (getD ls k [])) (k + 2)
 
 -- "filing 1 to 8": 6 and 7 are one test, whose number and place are those of the first bad line
 pub file-order : (name body : List ℕ) →

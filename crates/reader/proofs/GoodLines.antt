@@ -25,7 +25,8 @@ use Rattle.notification.proofs.Breaks.{line-in}
 use Rattle.notification.proofs.Steps.{lineOf, line-made, line-value}
 use Rattle.reader.proofs.Figures.{powerIn, power-sound}
 use Rattle.reader.proofs.Ends.{whole-past}
-use Rattle.reader.proofs.Tallies.{line-good, takes-cons, or-zero}
+use Rattle.reader.proofs.Series.{or-zero}
+use Rattle.reader.proofs.Tallies.{line-good, takes-cons}
 use Rattle.reader.proofs.Marking.{as-marks, bytes-at, label-mark, table-mark}
 
 -- ---- the text of a good line

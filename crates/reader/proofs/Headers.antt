@@ -11,6 +11,7 @@ use lib.Seq.{take-at, take-all, take-suc, drop-drop, getD-drop}
 use borrow.Author.Tests.{eqb-true, eqb-false}
 use Rattle.lists.specs.Searches.{same}
 use Rattle.lists.proofs.Tests.{by-test}
+use Rattle.lists.proofs.Searches.{same-true}
 use Rattle.lists.proofs.Parts.{drop-past, rest-all}
 use Rattle.calendar.specs.Texts.{textOf}
 use Rattle.notification.specs.Forms.{categoryText}
@@ -51,6 +52,9 @@ same-more (a ∷ s) (b ∷ t) x y e = rest (eqb a b) (same-more s t x y (omega a
     rest : (q : Bool) → same (s ++ x ∷ []) (t ++ y ∷ []) ≡ (same s t && eqb x y) → (q && same (s ++ x ∷ []) (t ++ y ∷ [])) ≡ ((q && same s t) && eqb x y)
     rest true p = p
     rest false p = refl
+
+pub same-length : (s t : List ℕ) → (length s ≡ length t → ⊥) → false ≡ same s t
+same-length s t f = by-test (same s t) (λ e. absurd (f (ap length (same-true s t e)))) (λ e. sym e)
 
 pub alike-more : (s t : List ℕ) (i : ℕ) (g : Bool) → length s ≡ length t → i < length s → g ≡ same (take i s) (take i t)
     → (g && eqb (getD s i 0) (getD t i 0)) ≡ same (take (i + 1) s) (take (i + 1) t)

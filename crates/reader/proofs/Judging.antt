@@ -35,7 +35,7 @@ label-few steps at = by-test (againAt steps at) (λ t. rw t (omega arith)) (λ t
 
 -- ---- a power, exactly
 
-power-whole : (s : List ℕ) (v n : ℕ) → powerIn s ≡ Is v n → n ≡ length s → (isPower s ≡ true) × (powerValue s ≡ v)
+pub power-whole : (s : List ℕ) (v n : ℕ) → powerIn s ≡ Is v n → n ≡ length s → (isPower s ≡ true) × (powerValue s ≡ v)
 power-whole s v n e h =
     let p = power-sound s v n e in
     let t : s ≡ powerText v = sym (take-all n s (omega arith)) ∙ p .2 in
@@ -45,7 +45,7 @@ append-nil : (s : List ℕ) → s ++ [] ≡ s
 append-nil [] = refl
 append-nil (x ∷ s) = ap (λ (t : List ℕ). x ∷ t) (append-nil s)
 
-power-only : (s : List ℕ) → isPower s ≡ true → powerIn s ≡ Is (powerValue s) (length s)
+pub power-only : (s : List ℕ) → isPower s ≡ true → powerIn s ≡ Is (powerValue s) (length s)
 power-only s e =
     let p = power-back s e in
     let v = powerValue s in

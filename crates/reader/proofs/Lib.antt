@@ -4,6 +4,7 @@ pub mod Starts
 pub mod Judging
 pub mod Taking
 pub mod Ends
+pub mod Series
 pub mod Tallies
 pub mod KeyParts
 pub mod Frames

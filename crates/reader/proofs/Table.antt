@@ -1,40 +1,34 @@
 -- The table of refusals, row by row, as the reader goes through it.
-use mathlib.Core.Path.{_≡_, refl, sym, ap, _∙_}
-use mathlib.Core.Bool.{Bool, true, false, not, _&&_}
+use mathlib.Core.Path.{_≡_, refl, ap, _∙_}
+use mathlib.Core.Bool.{true, false, _&&_}
 use mathlib.Core.List.{List, [], _∷_, _++_}
-use Prim.Native.Nat.{ℕ, _+_, _-_, _<_, _≤_, min}
-use native.Mathlib.Nat.{zero-add}
+use Prim.Native.Nat.{ℕ, _+_, _-_, _<_, _≤_}
 use native.Mathlib.Omega.{arith}
 use lib.Dec.{ltb, leb, eqb}
-use lib.ListN.{length, getD, take, drop, replicate, length-append}
+use lib.ListN.{length, getD, take, drop, length-append}
 use lib.Seq.{take-at}
-use borrow.Author.Tests.{eqb-true, eqb-false, eq-eqb, ne-eqb, ltb-true, lt-ltb, le-ltb}
+use borrow.Author.Tests.{eqb-true, ltb-true, lt-ltb, le-ltb}
 use Rattle.lists.specs.Searches.{same}
 use Rattle.lists.proofs.Tests.{by-test, true-false, and-left, and-right, and-true}
 use Rattle.lists.proofs.Searches.{same-refl}
 use Rattle.calendar.specs.Steps.{stepsOf}
 use Rattle.calendar.proofs.StepCounts.{steps-small}
-use Rattle.refusals.specs.Tests.{Test, input, firstMet, decide}
-use Rattle.refusals.specs.declared.Refusal.{Refusal}
+use Rattle.refusals.specs.Tests.{input}
 use Rattle.refusals.specs.declared.Refusal.the-variants.{Input}
-use Rattle.refusals.specs.declared.InputRefusal.the-variants.{Name, Body, Header, Differs, Lines, Zeros}
+use Rattle.refusals.specs.declared.InputRefusal.the-variants.{Name, Body, Header, Differs}
 use Rattle.refusals.specs.declared.Verdict.{Verdict}
 use Rattle.refusals.specs.declared.Verdict.the-variants.{Pass, No}
-use Rattle.notification.specs.Forms.{inPlaces, places, allZero}
 use Rattle.notification.specs.Writing.{nameOf, headerOf, keyText, formed}
-use Rattle.notification.specs.Reading.{keyIn, nameKey, validKey, isName, isHeader, linesIn, isBody, bodyMost, headLine, stepLines, firstBad, lineRefusal, powersIn, fileTests, noteIn, accepted, refused, readFile}
+use Rattle.notification.specs.Reading.{keyIn, nameKey, validKey, isName, isHeader, linesIn, isBody, bodyMost, headLine, stepLines, fileTests, noteIn, refused, readFile}
 use Rattle.reader.specs.Parts.{isKey, found, noKey, nameRead, headerVerdict}
-use Rattle.reader.specs.Folding.{Taken, FileTaken, noSteps, noLines, takeSteps, takeLine, takeLines, judgement, concluded, linesRead}
+use Rattle.reader.specs.Folding.{FileTaken, noLines, takeLine, takeLines, concluded, linesRead}
 use Rattle.notification.specs.declared.Key.{Key}
-use Rattle.notification.specs.declared.Reading.{Reading}
 use Rattle.reader.specs.declared.keys.KeyRead.{KeyRead}
-use Rattle.reader.specs.declared.tally.Tally.{Tally}
 use Rattle.notification.proofs.Lines.{joined, joined-lines}
 use Rattle.notification.proofs.Lengths.{formed-parts, name-length}
 use Rattle.notification.proofs.Names.{name-back}
-use Rattle.notification.proofs.Steps.{powers-length}
 use Rattle.reader.proofs.Heading.{concluded-no, concluded-pass}
-use Rattle.reader.proofs.Tallies.{lines-counted, lines-kept, verdictFrom, verdict-table, sets-places}
+use Rattle.reader.proofs.Tallies.{judged-all}
 
 -- ---- a body
 
@@ -60,26 +54,6 @@ body-lines body b =
     let d = eqb (getD body (length body - 1) 0) 10 in
     let h = ltb-true 0 (length body) (and-left a c (and-left (a && c) d b)) in
     parted-lines body (linesIn body) (joined-lines body (eqb-true (getD body (length body - 1) 0) 10 (and-right (a && c) d b))) h
-
--- ---- what the steps come to
-
-module _ (key : Key) (steps : ℕ) (t : Tally) (ps : List ℕ) where
-  pub judged-lines : (t .lines ≡ steps → ⊥) → refused (input Lines) ≡ judgement key steps t ps
-  unfolding judgement
-  judged-lines h = rw (ne-eqb (t .lines) steps h)
-
-  module _ (h : t .lines ≡ steps) where
-    pub judged-fault : (r : Refusal) → t .verdict ≡ No r → refused r ≡ judgement key steps t ps
-    unfolding judgement
-    judged-fault r v = rw (eq-eqb (t .lines) steps h, v)
-
-    pub judged-passed : t .verdict ≡ Pass → t .any ≡ true → accepted (record { key = key; steps = steps; powers = ps }) ≡ judgement key steps t ps
-    unfolding judgement
-    judged-passed v a = rw (eq-eqb (t .lines) steps h, v, a)
-
-    pub judged-zeros : t .verdict ≡ Pass → t .any ≡ false → refused (input Zeros) ≡ judgement key steps t ps
-    unfolding judgement
-    judged-zeros v a = rw (eq-eqb (t .lines) steps h, v, a)
 
 -- ---- the rows of the table
 
@@ -132,70 +106,6 @@ inside-named name x e g =
     let v : validKey (keyIn s) ≡ true = rw (← q) (and-true (formed (nameKey name)) (ltb (nameKey name .day) 36525) (b .its-form) (lt-ltb (nameKey name .day) 36525 (b .its-day))) in
     let w : same s (keyText 95 (keyIn s)) ≡ true = rw (← q, inside-text name (a .0)) (same-refl (keyText 95 (nameKey name))) in
     (and-true (validKey (keyIn s)) (same s (keyText 95 (keyIn s))) v w, a .1 ∙ q)
-
--- the last three rows, of the lines of a day
-abbrev lineTests : ℕ → List (List ℕ) → List Test
-lineTests steps ls =
-    (not (eqb (length ls) steps), input Lines)
-    ∷ (ltb (firstBad steps ls) (length ls), lineRefusal steps ls (firstBad steps ls))
-    ∷ (allZero (powersIn steps 0 ls), input Zeros)
-    ∷ []
-
-abbrev lineResult : Key → ℕ → List (List ℕ) → Reading
-lineResult key steps ls =
-    decide (firstMet (lineTests steps ls)) (accepted (record { key = key; steps = steps; powers = inPlaces (powersIn steps 0 ls) })) refused
-
-module _ (key : Key) (steps : ℕ) (few : steps ≤ places) (ls : List (List ℕ)) where
-  abbrev start : Taken
-  start = record { tally = noSteps; powers = replicate places 0 }
-
-  abbrev end : Taken
-  end = takeSteps steps start ls
-
-  count-end : end .tally .lines ≡ min (length ls) 51
-  count-end = lines-counted steps start ls (omega arith) ∙ ap (λ (n : ℕ). min n 51) (zero-add (length ls))
-
-  module _ (n : length ls ≡ steps) where
-    abbrev bad : Bool
-    bad = ltb (firstBad steps ls) (length ls)
-
-    count-same : end .tally .lines ≡ steps
-    count-same = omega (arith, count-end)
-
-    refused-line : bad ≡ true → judgement key steps (end .tally) (end .powers) ≡ lineResult key steps ls
-    refused-line c =
-        let q = lines-kept steps start ls refl (omega arith) few in
-        let v : end .tally .verdict ≡ No (lineRefusal steps ls (firstBad steps ls)) = q .its-verdict ∙ (verdict-table steps ls ∙ rw c) in
-        sym (judged-fault key steps (end .tally) (end .powers) count-same (lineRefusal steps ls (firstBad steps ls)) v) ∙ rw (eq-eqb (length ls) steps n, c)
-
-    module _ (c : bad ≡ false) where
-      passed : verdictFrom steps 0 ls ≡ Pass
-      passed = verdict-table steps ls ∙ rw c
-
-      its-any : end .tally .any ≡ not (allZero (powersIn steps 0 ls))
-      its-any = lines-kept steps start ls refl (omega arith) few .its-any passed
-
-      its-verdict : end .tally .verdict ≡ Pass
-      its-verdict = lines-kept steps start ls refl (omega arith) few .its-verdict ∙ passed
-
-      its-powers : end .powers ≡ inPlaces (powersIn steps 0 ls)
-      its-powers =
-          lines-kept steps start ls refl (omega arith) few .its-powers passed
-          ∙ sets-places (powersIn steps 0 ls) (omega (arith, powers-length steps 0 ls))
-
-      accepted-lines : judgement key steps (end .tally) (end .powers) ≡ lineResult key steps ls
-      accepted-lines =
-          by-test (allZero (powersIn steps 0 ls))
-          (λ z. sym (judged-zeros key steps (end .tally) (end .powers) count-same its-verdict (its-any ∙ ap not z)) ∙ rw (eq-eqb (length ls) steps n, c, z))
-          (λ z. sym (judged-passed key steps (end .tally) (end .powers) count-same its-verdict (its-any ∙ ap not z)) ∙ rw (eq-eqb (length ls) steps n, c, z, its-powers))
-
-  judged-all : judgement key steps (end .tally) (end .powers) ≡ lineResult key steps ls
-  judged-all =
-      by-test (eqb (length ls) steps)
-      (λ a. let n = eqb-true (length ls) steps a in
-      by-test (ltb (firstBad steps ls) (length ls)) (λ c. refused-line n c) (λ c. accepted-lines n c))
-      (λ a. let f = eqb-false (length ls) steps a in
-      sym (judged-lines key steps (end .tally) (end .powers) (λ (e : end .tally .lines ≡ steps). f (omega (arith, count-end)))) ∙ rw a)
 
 module _ (name body : List ℕ) where
   pub row-name : isName name ≡ false → refused (input Name) ≡ readFile name body

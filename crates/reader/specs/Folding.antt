@@ -62,6 +62,11 @@ abbrev pub stepTaken : ℕ → ℕ → Taken → LinePower → Taken
 stepTaken first steps x said =
     cond (isOver steps (x .tally)) (record { tally = counted (x .tally); powers = x .powers }) (judged first x said)
 
+-- steps one after another, by what is said of each as step k
+unfoldable pub takeAll : {A : Type 0} → (ℕ → A → LinePower) → ℕ → ℕ → Taken → List A → Taken
+takeAll say first steps x [] = x
+takeAll say first steps x (a ∷ xs) = takeAll say first steps (stepTaken first steps x (say (x .tally .lines) a)) xs
+
 -- the line of a file's first step, the header being 1
 abbrev pub firstLine : ℕ
 firstLine = 2

@@ -15,11 +15,13 @@ use refusals::InputRefusal;
 use refusals::Refusal;
 use refusals::Verdict;
 
-// Whether two parts of the same length are the same. Each byte is looked at, so that many are compared at once.
-fn alike(a: &[u8], b: &[u8]) -> bool
-    requires { ⌜ length (now a) ≡ length (now b) ⌝ }
+// Whether two texts are the same. Each byte is looked at, so that many are compared at once.
+pub fn alike(a: &[u8], b: &[u8]) -> bool
     ensures { λ r. ⌜ r ≡ same (now (a .entry)) (now (b .entry)) ⌝ }
 {
+    if a.len() != b.len() {
+        return false;
+    }
     let mut good = true;
     let mut i: usize = 0;
     while i < a.len() {

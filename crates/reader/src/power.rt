@@ -13,7 +13,7 @@ pub enum Power {
 }
 
 // The power and `;` that five bytes begin with: one digit, or up to four that begin with no 0.
-pub(crate) fn power_of(a: u8, b: u8, c: u8, d: u8, e: u8) -> Power
+pub fn power_of(a: u8, b: u8, c: u8, d: u8, e: u8) -> Power
     ensures { λ r. ⌜ r ≡ leadingPower a b c d e ⌝ }
 {
     let one = digit_value(a);

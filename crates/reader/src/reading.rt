@@ -19,7 +19,7 @@ use refusals::Verdict;
 const MOST_BYTES: usize = 4096;
 
 // A refusal, beside a blank notification.
-fn refuse(r: Refusal) -> Reading
+pub fn refuse(r: Refusal) -> Reading
     ensures { λ x. ⌜ x ≡ refused r ⌝ }
 {
     let key = Key {
@@ -51,7 +51,7 @@ fn is_body(body: &[u8]) -> bool
 }
 
 // What the lines come to: their number, the first fault, whether a power isn't 0.
-fn judge(key: Key, steps: u32, t: Tally, powers: [u16; 50]) -> Reading
+pub fn judge(key: Key, steps: u32, t: Tally, powers: [u16; 50]) -> Reading
     ensures { λ r. ⌜ r ≡ judgement key steps t powers ⌝ }
 {
     if t.lines != steps {

@@ -25,7 +25,7 @@ pub enum LinePower {
     NoPower,
 }
 
-pub(crate) fn is_pass(v: Verdict) -> bool
+pub fn is_pass(v: Verdict) -> bool
     ensures { λ r. ⌜ r ≡ isPass v ⌝ }
 {
     match v {
@@ -45,7 +45,7 @@ fn one_more(lines: u32) -> u32
 }
 
 // A step more.
-pub(crate) fn count(t: Tally) -> Tally
+pub fn count(t: Tally) -> Tally
     ensures { λ r. ⌜ r ≡ counted t ⌝ }
 {
     let verdict = t.verdict;
@@ -80,7 +80,7 @@ fn credit(t: Tally, power: u16) -> Tally
 }
 
 // Whether a step is only counted: after a fault, and past the day's steps.
-pub(crate) fn is_over(t: Tally, steps: u32) -> bool
+pub fn is_over(t: Tally, steps: u32) -> bool
     ensures { λ r. ⌜ r ≡ isOver steps t ⌝ }
 {
     let verdict = t.verdict;
@@ -89,7 +89,7 @@ pub(crate) fn is_over(t: Tally, steps: u32) -> bool
 
 // The next step of the day, by what is said of it: its power in its place, or the first fault. The place of the first
 // step is given.
-pub(crate) fn note(t: Tally, first: u32, said: LinePower, powers: &mut [u16; 50]) -> Tally
+pub fn note(t: Tally, first: u32, said: LinePower, powers: &mut [u16; 50]) -> Tally
     requires { ⌜ (t .lines < places) × (first ≤ 2) ⌝ }
     ensures { λ r. ⌜ record { tally = r; powers = now (powers .exit) }
         ≡ judged first (record { tally = t; powers = now (powers .entry) }) said ⌝ }

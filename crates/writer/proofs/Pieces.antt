@@ -1,27 +1,23 @@
 -- Names, headers and bodies, in the pieces that they are written in.
-use mathlib.Core.Path.{_≡_, sym, ap}
+use mathlib.Core.Path.{_≡_, refl}
 use mathlib.Core.Bool.{true, _&&_}
 use mathlib.Core.List.{List, [], _∷_, _++_, append-assoc}
-use Prim.Native.Nat.{ℕ, suc, _+_, _-_, _<_, _≤_}
-use native.Mathlib.Nat.{add-zero, zero-add}
-use native.Mathlib.Numerals.{add-one}
+use Prim.Native.Nat.{ℕ, suc, _+_, _<_, _≤_}
 use native.Mathlib.Omega.{arith}
 use lib.Dec.{ltb, eqb}
-use lib.ListN.{length, getD, take, drop, set, length-append}
-use lib.Seq.{take-suc, take-add, length-take-le}
-use borrow.Author.Tests.{ltb-true, eqb-true}
+use lib.ListN.{length, take, drop, set, length-append}
+use borrow.Author.Tests.{eqb-true}
 use Rattle.lists.specs.Searches.{every}
 use Rattle.lists.proofs.Tests.{and-left, and-right}
-use Rattle.lists.proofs.Searches.{every-at}
 use Rattle.calendar.specs.Steps.{stepsOf}
 use Rattle.calendar.specs.Texts.{textOf}
 use Rattle.calendar.proofs.StepCounts.{steps-small}
 use Rattle.notification.specs.Forms.{categoryText, powerEnd, places, allZero}
 use Rattle.notification.specs.Writing.{nameOf, headerOf, labelsText, powerText, linesOf, bodyOf, formed, ranged}
-use Rattle.writer.specs.Placing.{Placed, Powered, keyStart, stepText}
+use Rattle.writer.specs.Placing.{Placed, Powered, keyStart, stepText, stepTexts}
 use Rattle.notification.specs.declared.Key.{Key}
 use Rattle.notification.specs.declared.Notification.{Notification}
-use Rattle.notification.proofs.Lengths.{formed-parts, name-length, header-length, lines-length, body-length}
+use Rattle.notification.proofs.Lengths.{formed-parts, name-length, header-length, line-length, body-length}
 use Rattle.writer.proofs.Placed.{placed-length, placed-end, placed-join}
 
 -- ---- ceder, acquirer and date
@@ -111,65 +107,14 @@ module _ (k : Key) (buffer : List ℕ) (room : length (headerOf k) + 1 ≤ lengt
 
 -- ---- the lines of the steps
 
-pub lines-append : (steps k : ℕ) (s t : List ℕ) → linesOf steps k (s ++ t) ≡ linesOf steps k s ++ linesOf steps (k + length s) t
-unfolding linesOf
-lines-append steps k [] t = rw add-zero
-lines-append steps k (p ∷ s) t =
-    let e : suc k + length s ≡ k + suc (length s) = omega arith in
-    rw (lines-append steps (suc k) s t, e) (sym (append-assoc (labelsText steps k ++ powerText p) (10 ∷ linesOf steps (suc k) s) (linesOf steps (k + suc (length s)) t)))
+pub lines-texts : (steps k : ℕ) (ps : List ℕ) → stepTexts (stepText steps) k ps ≡ linesOf steps k ps
+unfolding linesOf stepTexts
+lines-texts steps k [] = refl
+lines-texts steps k (p ∷ ps) =
+    rw (lines-texts steps (suc k) ps) (append-assoc (labelsText steps k ++ powerText p) (10 ∷ []) (linesOf steps (suc k) ps))
 
-pub lines-more : (steps : ℕ) (ps : List ℕ) (i : ℕ) → i < length ps
-    → linesOf steps 0 (take (i + 1) ps) ≡ linesOf steps 0 (take i ps) ++ stepText steps i (getD ps i 0)
-unfolding linesOf
-lines-more steps ps i h =
-    let n = length-take-le i ps (omega arith) in
-    rw (add-one i, take-suc ps i 0 h, lines-append steps 0 (take i ps) (getD ps i 0 ∷ []), n, zero-add i)
-
-lines-up-to : (steps : ℕ) (ps : List ℕ) (i n : ℕ) → i ≤ n → length (linesOf steps 0 (take i ps)) ≤ length (linesOf steps 0 (take n ps))
-lines-up-to steps ps i n h =
-    let e : i + (n - i) ≡ n = omega arith in
-    let s = take i ps in
-    let t = take (n - i) (drop i ps) in
-    let f : take n ps ≡ s ++ t = rw e at (take-add i (n - i) ps) in
-    rw (f, lines-append steps 0 s t, length-append) (omega arith)
-
-module _ (steps : ℕ) (ps : List ℕ) (w : Powered steps ps) where
-  pub sum-all : (sum k : ℕ) → k ≤ steps → steps ≤ k → sum ≡ length (linesOf steps 0 (take k ps)) → sum ≡ length (linesOf steps 0 (take steps ps))
-  sum-all sum k h l e = let n : k ≡ steps = omega arith in rw n at e
-
-  pub lines-placed : (buffer : List ℕ) (at : ℕ) (b : List ℕ) (next k : ℕ) → k ≤ steps → steps ≤ k
-      → Placed buffer at (linesOf steps 0 (take k ps)) b next → Placed buffer at (linesOf steps 0 (take steps ps)) b next
-  lines-placed buffer at b next k h l p = let n : k ≡ steps = omega arith in rw n at p
-
-  module _ (k : ℕ) (h : k < steps) where
-    abbrev its-step : List ℕ
-    its-step = stepText steps k (getD ps k 0)
-
-    pub step-power : getD ps k 0 < powerEnd
-    step-power = ltb-true (getD ps k 0) powerEnd (every-at (λ p. ltb p powerEnd) ps k 0 (w .in-range) (omega (arith, w .there)))
-
-    one-more : linesOf steps 0 (take (k + 1) ps) ≡ linesOf steps 0 (take k ps) ++ its-step
-    one-more = lines-more steps ps k (omega (arith, w .there))
-
-    step-within : length (linesOf steps 0 (take k ps)) + length its-step ≤ length (linesOf steps 0 (take steps ps))
-    step-within =
-        omega (arith, lines-up-to steps ps (k + 1) steps (omega arith), ap length one-more, length-append (linesOf steps 0 (take k ps)) its-step)
-
-    -- no day's lines are long, so that the sum fits
-    pub sum-fits : (sum d : ℕ) → sum ≡ length (linesOf steps 0 (take k ps)) → d ≡ length its-step → sum + d ≤ 1300
-    sum-fits sum d e f =
-        omega (arith, step-within, lines-length steps 0 (take steps ps), length-take-le steps ps (w .there), w .few)
-
-    pub sum-more : (sum d : ℕ) → sum ≡ length (linesOf steps 0 (take k ps)) → d ≡ length its-step
-        → sum + d ≡ length (linesOf steps 0 (take (k + 1) ps))
-    sum-more sum d e f = omega (arith, ap length one-more, length-append (linesOf steps 0 (take k ps)) its-step)
-
-    module _ (buffer : List ℕ) (at : ℕ) (b : List ℕ) (next : ℕ) (p : Placed buffer at (linesOf steps 0 (take k ps)) b next) where
-      pub step-room : at + length (linesOf steps 0 (take steps ps)) ≤ length buffer → next + length its-step ≤ length b
-      step-room r = omega (arith, step-within, placed-length p, p .follows)
-
-      pub step-placed : (d : List ℕ) (end : ℕ) → Placed b next its-step d end → Placed buffer at (linesOf steps 0 (take (k + 1) ps)) d end
-      step-placed d end q = rw one-more (placed-join p q)
+pub line-most : (steps k p : ℕ) → length (stepText steps k p) ≤ 26
+line-most steps k p = omega (arith, line-length steps k p, length-append (labelsText steps k ++ powerText p) (10 ∷ []))
 
 -- ---- bodies
 

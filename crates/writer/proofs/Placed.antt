@@ -49,6 +49,13 @@ placed-join {l} {at} {s} {b} {n} {t} {c} {m} p q =
       follows = omega (arith, p .follows, q .follows, length-append s t);
     }
 
+-- where two texts have room there is room for the first, and after it for the second
+pub room-first : (at : ℕ) (s t : List ℕ) {n : ℕ} → at + length (s ++ t) ≤ n → at + length s ≤ n
+room-first at s t h = omega (arith, length-append s t)
+
+pub room-second : {l : List ℕ} {at : ℕ} {s b : List ℕ} {n : ℕ} (t : List ℕ) → Placed l at s b n → at + length (s ++ t) ≤ length l → n + length t ≤ length b
+room-second {l} {at} {s} t p h = omega (arith, length-append s t, placed-length p, p .follows)
+
 -- a text put at the beginning of a buffer that is long enough: the rest is untouched
 pub placed-first : {l s b : List ℕ} {n : ℕ} → Placed l 0 s b n → length s ≤ length l → b ≡ s ++ drop (length s) l
 placed-first {l} {s} p h =

@@ -2,7 +2,7 @@
 use mathlib.Core.Path.{_≡_}
 use mathlib.Core.Bool.{true}
 use mathlib.Core.List.{List, [], _∷_, _++_}
-use Prim.Native.Nat.{ℕ, _+_, _≤_}
+use Prim.Native.Nat.{ℕ, suc, _+_, _≤_}
 use lib.Dec.{ltb}
 use lib.ListN.{length}
 use lib.Seq.{sets}
@@ -27,6 +27,11 @@ keyStart by k = (k .ceder ++ by ∷ []) ++ (k .acquirer ++ by ∷ []) ++ (textOf
 -- a step's line with its LF
 abbrev pub stepText : ℕ → ℕ → ℕ → List ℕ
 stepText steps k p = labelsText steps k ++ powerText p ++ 10 ∷ []
+
+-- a text for each power from the k-th step on, one after another
+unfoldable pub stepTexts : (ℕ → ℕ → List ℕ) → ℕ → List ℕ → List ℕ
+stepTexts text k [] = []
+stepTexts text k (p ∷ ps) = text k p ++ stepTexts text (suc k) ps
 
 -- a power for each of a day's steps, and each power in its range
 pub record Powered (steps : ℕ) (powers : List ℕ) : Type 0 where

@@ -17,7 +17,7 @@ use notification::forms::is_code;
 const POWER_END: u16 = 10000;
 
 // How many of a category's six bytes are its text.
-pub(crate) fn category_length(category: [u8; 6]) -> usize
+pub fn category_length(category: [u8; 6]) -> usize
     ensures { λ r. ⌜ (take r category ≡ categoryText category) × (r ≡ length (categoryText category))
         × (r ≤ length category) ⌝ }
 {

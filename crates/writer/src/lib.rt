@@ -1,5 +1,5 @@
 // The writer of the notification file (document 01, "The notification file").
 pub mod checks;
-mod placing;
-mod step_line;
+pub mod placing;
+pub mod step_line;
 pub mod writing;

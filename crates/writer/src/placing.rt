@@ -5,7 +5,7 @@ ghost use lib.ListN.{length};
 ghost use Rattle.writer.specs.Placing.{Placed};
 
 // Puts a text at a place, and gives the place after it.
-pub(crate) fn put_text(buffer: &mut [u8], at: usize, text: &[u8]) -> usize
+pub fn put_text(buffer: &mut [u8], at: usize, text: &[u8]) -> usize
     requires { ⌜ at + length (now text) ≤ length (now buffer) ⌝ }
     ensures { λ r. ⌜ Placed (now (buffer .entry)) at (now (text .entry)) (now (buffer .exit)) r ⌝ }
 {
@@ -18,7 +18,7 @@ pub(crate) fn put_text(buffer: &mut [u8], at: usize, text: &[u8]) -> usize
 }
 
 // Puts a text and the byte that ends it.
-pub(crate) fn put_ended(buffer: &mut [u8], at: usize, text: &[u8], end: u8) -> usize
+pub fn put_ended(buffer: &mut [u8], at: usize, text: &[u8], end: u8) -> usize
     requires { ⌜ at + length (now text) < length (now buffer) ⌝ }
     ensures { λ r. ⌜ Placed (now (buffer .entry)) at (now (text .entry) ++ end ∷ []) (now (buffer .exit)) r ⌝ }
 {

@@ -12,9 +12,9 @@ use calendar::Label;
 use calendar::labels_of;
 
 // A power in digits: `len` of the bytes.
-struct Digits {
-    bytes: [u8; 4],
-    len: usize,
+pub struct Digits {
+    pub bytes: [u8; 4],
+    pub len: usize,
 }
 
 // The last digit of a number.
@@ -25,7 +25,7 @@ fn digit(n: u16) -> u8
 }
 
 // A power in digits, without sign or needless zero.
-fn digits_of(p: u16) -> Digits
+pub fn digits_of(p: u16) -> Digits
     requires { ⌜ p < powerEnd ⌝ }
     ensures { λ r. ⌜ (take (r .len) (r .bytes) ≡ digits p) × (r .len ≡ length (digits p)) × (length (r .bytes) ≡ 4) ⌝ }
 {

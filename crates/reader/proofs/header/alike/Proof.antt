@@ -5,7 +5,7 @@ use Prim.Native.Nat.{_-_, _≤_}
 use native.Mathlib.Omega.{arith}
 use lib.ListN.{length, take}
 use Rattle.lists.specs.Searches.{same}
-use Rattle.reader.proofs.Headers.{alike-more, alike-all}
+use Rattle.reader.proofs.Headers.{same-length, alike-more, alike-all}
 use Rattle.reader.proofs.header.alike.Statement.{statement}
 use Rattle.reader.proofs.header.alike.Tie as tie
 
@@ -14,6 +14,9 @@ Inv-loop a b good₀ i₀ good i = (i ≤ length a) × (good ≡ same (take i a)
 
 abbrev μ-loop : tie.MeasureT-loop
 μ-loop a b good₀ i₀ good i = length a - i
+
+returns : tie.Need-returns Inv-loop μ-loop
+returns c = let x = c .before in same-length (x .args .a .now) (x .args .b .now) (c .if1 .taken)
 
 loop-holds : tie.Need-loop-holds Inv-loop μ-loop
 unfolding same
@@ -33,15 +36,15 @@ loop-less c = search needs
 
 loop-again : tie.Need-loop-again Inv-loop μ-loop
 loop-again c =
-    let x = c .before .before .before .before in
-    let l = c .before .before .before .loop in
-    (omega arith, alike-more (x .args .a .now) (x .args .b .now) (l .i) (l .good) (x .pre) (c .before .before .loop-test .taken) (l .inv .1))
+    let l = c .before .before .before in
+    let x = l .before .before in
+    (omega arith, alike-more (x .args .a .now) (x .args .b .now) (l .loop .i) (l .loop .good) (l .before .if1 .left) (c .before .before .loop-test .taken) (l .loop .inv .1))
 
-returns : tie.Need-returns Inv-loop μ-loop
-returns c =
-    let x = c .before .before in
-    let l = c .before .loop in
-    alike-all (x .args .a .now) (x .args .b .now) (l .i) (l .good) (x .pre) (c .loop-test .left) (l .inv .1)
+returns-2 : tie.Need-returns-2 Inv-loop μ-loop
+returns-2 c =
+    let l = c .before in
+    let x = l .before .before in
+    alike-all (x .args .a .now) (x .args .b .now) (l .loop .i) (l .loop .good) (l .before .if1 .left) (c .loop-test .left) (l .loop .inv .1)
 
 pub alike-spec : {M : Type 1} → statement M
 alike-spec =
@@ -49,10 +52,11 @@ alike-spec =
     (tie.spec
     Inv-loop
     μ-loop
+    returns
     loop-holds
     shared-slice-read-good
     shared-slice-read-good-2
     add-i
     loop-less
     loop-again
-    returns)
+    returns-2)

@@ -1,7 +1,7 @@
 -- Each way through the code is a row of the table.
 use borrow.Author.Needs.{needs}
 use mathlib.Core.Path.{_∙_}
-use Rattle.reader.proofs.Table.{judged-lines, judged-fault, judged-passed, judged-zeros}
+use Rattle.reader.proofs.Series.{judged-lines, judged-fault, judged-passed, judged-zeros}
 use Rattle.reader.proofs.reading.judge.Statement.{statement}
 use Rattle.reader.proofs.reading.judge.Tie as tie
 

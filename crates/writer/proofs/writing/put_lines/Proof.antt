@@ -3,21 +3,21 @@ use borrow.Author.Needs.{needs}
 use Prim.Native.Nat.{_≤_, _-_}
 use native.Mathlib.Omega.{arith}
 use lib.ListN.{take}
-use Rattle.notification.specs.Writing.{linesOf}
-use Rattle.writer.specs.Placing.{Placed}
+use Rattle.writer.specs.Placing.{Placed, stepText, stepTexts}
 use Rattle.writer.proofs.Placed.{placed-none, placed-length}
-use Rattle.writer.proofs.Pieces.{step-power, step-room, step-placed, lines-placed}
+use Rattle.writer.proofs.StepTexts.{step-power, step-room, step-placed, texts-placed}
+use Rattle.writer.proofs.Pieces.{lines-texts}
 use Rattle.writer.proofs.writing.put_lines.Statement.{statement}
 use Rattle.writer.proofs.writing.put_lines.Tie as tie
 
 abbrev Inv-loop : tie.InvT-loop
-Inv-loop buffer₀ at steps powers next₀ k₀ buffer next k = (k ≤ steps) × Placed buffer₀ at (linesOf steps 0 (take k powers)) buffer next
+Inv-loop buffer₀ at steps powers next₀ k₀ buffer next k = (k ≤ steps) × Placed buffer₀ at (stepTexts (stepText steps) 0 (take k powers)) buffer next
 
 abbrev μ-loop : tie.MeasureT-loop
 μ-loop buffer₀ at steps powers next₀ k₀ buffer next k = steps - k
 
 loop-holds : tie.Need-loop-holds Inv-loop μ-loop
-unfolding linesOf
+unfolding stepTexts
 loop-holds c = (omega arith, placed-none (c .before .before .args .buffer .now) (c .before .before .args .at))
 
 cast-put-line : tie.Need-cast-put-line Inv-loop μ-loop
@@ -33,8 +33,13 @@ put-line-requires : tie.Need-put-line-requires Inv-loop μ-loop
 put-line-requires c κs =
     let a = c .before .before .before .before .before .before in
     let l = c .before .before .before .loop in
-    let h = c .before .before .loop-test .taken in
-    (h, a .pre .0 .few, step-power (a .args .steps) (a .args .powers .now) (a .pre .0) (l .k) h, step-room (a .args .steps) (a .args .powers .now) (a .pre .0) (l .k) h _ _ _ _ (l .inv .1) (a .pre .1))
+    let h = c .before .before .loop-test .taken in (
+      h,
+      a .pre .0 .few,
+      step-power (a .args .steps) (a .args .powers .now) (a .pre .0) (l .k) h,
+      step-room (stepText (a .args .steps)) (a .args .steps) (a .args .powers .now) (a .pre .0) (l .k) h _ _ _ _ (l .inv .1)
+          (rw (← lines-texts (a .args .steps) 0 (take (a .args .steps) (a .args .powers .now))) at (a .pre .1)),
+    )
 
 add-k : tie.Need-add-k Inv-loop μ-loop
 add-k c = search needs
@@ -47,7 +52,7 @@ loop-again c =
     let a = c .before .before .before .before .before .before .before .before .before in
     let l = c .before .before .before .before .before .before .loop in
     let h = c .before .before .before .before .before .loop-test .taken in
-    (omega arith, step-placed (a .args .steps) (a .args .powers .now) (a .pre .0) (l .k) h _ _ _ _ (l .inv .1) _ _ (c .before .before .put-line .ensures))
+    (omega arith, step-placed (stepText (a .args .steps)) (a .args .steps) (a .args .powers .now) (a .pre .0) (l .k) h _ _ _ _ (l .inv .1) _ _ (c .before .before .put-line .ensures))
 
 same-length : tie.Need-same-length Inv-loop μ-loop
 same-length c = placed-length (c .before .loop .inv .1)
@@ -56,7 +61,8 @@ returns : tie.Need-returns Inv-loop μ-loop
 returns c =
     let a = c .before .before .before .before in
     let l = c .before .loop in
-    lines-placed (a .args .steps) (a .args .powers .now) (a .pre .0) _ _ _ _ (l .k) (l .inv .0) (c .loop-test .left) (l .inv .1)
+    rw (lines-texts (a .args .steps) 0 (take (a .args .steps) (a .args .powers .now))) at
+    (texts-placed (stepText (a .args .steps)) (a .args .steps) (a .args .powers .now) (a .pre .0) _ _ _ _ (l .k) (l .inv .0) (c .loop-test .left) (l .inv .1))
 
 pub put-lines-spec : {M : Type 1} → statement M
 put-lines-spec =
