@@ -1,0 +1,20 @@
+-- What is true of the object of a request.
+pub mod HourLabels
+pub mod Laid
+pub mod Fits
+pub mod Whole
+pub mod Series
+pub mod Shapes
+pub mod MomentTexts
+pub mod Unquoted
+pub mod WholeObjects
+pub mod StepTokens
+pub mod Tables
+pub mod Accepted
+pub mod Written
+pub mod Lengths
+pub mod TwoWays
+pub mod Origins
+pub mod Submitted
+pub mod Examples
+pub mod Damages
