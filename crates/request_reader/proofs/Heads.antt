@@ -1,0 +1,99 @@
+-- The members before the steps, one after another: where each is found, the place of its value among all tokens is known.
+use mathlib.Core.Path.{_≡_, sym, ap, subst, _∙_}
+use mathlib.Core.Bool.{Bool, true, false, _&&_}
+use mathlib.Core.List.{List, [], _∷_, _++_}
+use Prim.Native.Nat.{ℕ, _+_, _≤_}
+use native.Mathlib.Omega.{arith}
+use lib.Dec.{leb, ltb, eqb}
+use lib.ListN.{length, getD, drop}
+use lib.Seq.{getD-drop}
+use borrow.Author.Tests.{ltb-true, ltb-false, le-leb, leb-true, eqb-true, eq-eqb}
+use Rattle.lists.specs.Searches.{every}
+use Rattle.lists.proofs.Tests.{by-test, true-false, and-left}
+use Rattle.request.specs.Tokens.{inside, tokens, is, quotedBy}
+use Rattle.request.specs.Moments.{momentIn, isMomentText, isDayText}
+use Rattle.request.specs.declared.Moment.{Moment}
+use Rattle.request.proofs.MomentTexts.{in-range, moment-back}
+use Rattle.request.proofs.Unquoted.{moment-text-unquoted}
+use Rattle.request_reader.specs.Walking.{starts, Walked, Membered, isPlain, firstToken, memberTests}
+use Rattle.request_reader.specs.Heads.{isTimely}
+use Rattle.request_reader.proofs.Walks.{nowhere, walked-on}
+use Rattle.request.proofs.Fits.{quoted-back}
+
+-- ---- one after another
+
+-- what was found after a place was looked for within the text
+pub walked-within : (q : List ℕ → Bool) (qs : List (List ℕ → Bool)) (s : List ℕ) (mid next : ℕ) → Walked (q ∷ qs) s mid next → next ≤ length s → mid ≤ length s
+unfolding starts
+walked-within q qs s mid next w h =
+    by-test (ltb (length s) mid)
+    (λ t. let z = nowhere s mid (ltb-true (length s) mid t) in
+    let n : starts (q ∷ qs) (tokens (drop mid s)) ≡ false = rw z in
+    true-false (starts (q ∷ qs) (tokens (drop mid s))) (w .found h .0) n)
+    (λ t. ltb-false (length s) mid t)
+
+module _ {A : Type 0} (ps : List (List ℕ → Bool)) (name : List ℕ) (form : List ℕ → Bool) (value : List ℕ → A) (s : List ℕ) (at mid next : ℕ) (read : A)
+    (w : Walked ps s at mid) (m : Membered name form value s mid next read) where
+  pub then-walked : Walked (ps ++ memberTests name (quotedBy form)) s at next
+  then-walked = walked-on ps (is name) (is (58 ∷ []) ∷ quotedBy form ∷ is (44 ∷ []) ∷ []) s at mid next w (m .walked)
+
+  pub then-within : next ≤ length s → mid ≤ length s
+  then-within h = walked-within (is name) (is (58 ∷ []) ∷ quotedBy form ∷ is (44 ∷ []) ∷ []) s mid next (m .walked) h
+
+  pub then-value : next ≤ length s → read ≡ value (inside (getD (tokens (drop at s)) (length ps + 2) []))
+  then-value h =
+      m .its-value h
+      ∙ ap (λ (t : List ℕ). value (inside t)) (ap (λ (ts : List (List ℕ)). getD ts 2 []) (w .found (then-within h) .1) ∙ getD-drop (length ps) (tokens (drop at s)) 2 [])
+
+-- a form by another that tests the same
+pub membered-as : {A : Type 0} (name : List ℕ) (form other : List ℕ → Bool) (value : List ℕ → A) (s : List ℕ) (at next : ℕ) (read : A)
+    → ((u : List ℕ) → form u ≡ other u) → Membered name form value s at next read → Membered name other value s at next read
+membered-as name form other value s at next read e m =
+    let f : form ≡ other = λ i u. e u i in
+    subst (λ (g : List ℕ → Bool). Membered name g value s at next read) f m
+
+-- ---- the time of a date member
+
+pub timely-day : (u : List ℕ) → isTimely 0 u ≡ isDayText u
+unfolding isTimely isDayText
+timely-day u = ap (λ (b : Bool). isMomentText u && b) (zero-test (momentIn u .second))
+  where
+    zero-test : (n : ℕ) → leb n 0 ≡ eqb n 0
+    zero-test n =
+        by-test (eqb n 0)
+        (λ t. let z = eqb-true n 0 t in rw t (le-leb n 0 (omega arith)))
+        (λ t. by-test (leb n 0)
+        (λ f. let h = leb-true n 0 f in
+        let z : n ≡ 0 = omega arith in
+        true-false (eqb n 0) (eq-eqb n 0 z) t)
+        (λ f. f ∙ sym t))
+
+pub timely-moment : (u : List ℕ) → isTimely 86399 u ≡ isMomentText u
+unfolding isTimely
+timely-moment u =
+    by-test (isMomentText u)
+    (λ t. let r = in-range (momentIn u) (moment-back u t .0) in
+    let h : momentIn u .second ≤ 86399 = omega (arith, r .1) in
+    rw (t, le-leb (momentIn u .second) 86399 h))
+    (λ t. rw t)
+
+module _ (latest : ℕ) where
+  timely-text : (u : List ℕ) → isTimely latest u ≡ true → isMomentText u ≡ true
+  unfolding isTimely
+  timely-text u e = and-left (isMomentText u) (leb (momentIn u .second) latest) e
+
+  pub timely-plain : (u : List ℕ) → isTimely latest u ≡ true → every isPlain u ≡ true
+  timely-plain u e = moment-text-unquoted u (timely-text u e)
+
+  pub timely-long : (s : List ℕ) (from : ℕ) → ((u : List ℕ) → isMomentText u ≡ true → length u ≡ 20) → quotedBy (isTimely latest) (firstToken s from) ≡ true
+      → length (inside (firstToken s from)) ≡ 20
+  timely-long s from long e = long (inside (firstToken s from)) (timely-text (inside (firstToken s from)) (quoted-back (isTimely latest) (firstToken s from) e .1))
+
+  -- what the reader finds of a moment
+  pub timely-read : (part : List ℕ) (good : Bool) (x : Moment) → good ≡ isMomentText part → (good ≡ true → x ≡ momentIn part)
+      → (good && leb (x .second) latest) ≡ isTimely latest part
+  unfolding isTimely
+  timely-read part good x e f =
+      by-test good
+      (λ t. rw (← e, t, f t))
+      (λ t. rw (← e, t))

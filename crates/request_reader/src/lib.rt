@@ -1,0 +1,10 @@
+// The reader of the object that the machine interface sends (document 02, K3): one walk over the bytes of the request,
+// which are never copied.
+pub mod cursor;
+mod head;
+mod members;
+mod moments;
+pub mod reading;
+mod series;
+mod step;
+mod tokens;

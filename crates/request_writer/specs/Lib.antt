@@ -1,0 +1,2 @@
+-- What the pieces of a written object are.
+pub mod Pieces
