@@ -1,15 +1,16 @@
 #!/usr/bin/env bash
 # Every open function asks nothing of its caller and says what comes of it: no `requires`, and an `ensures`. The theorems show it of the
 # register's calls and of the file's reader and writer; here it is read off the source of every crate but the register's inside (tables,
-# judging, recording) and the programs.
+# judging, recording), what the readers and the writers of file and object share, and the programs.
 set -euo pipefail
 cd "$(dirname "${BASH_SOURCE[0]}")/.."
 
 sources=()
-for crate in crates/*/; do
-    case $crate in
-        crates/tables/ | crates/judging/ | crates/recording/) ;;
-        *) if [[ ! -e ${crate}src/main.rt ]]; then sources+=("$crate"src/*.rt); fi ;;
+for source in crates/*/src/*.rt; do
+    case $source in
+        crates/tables/* | crates/judging/* | crates/recording/*) ;;
+        crates/reader/src/tally.rt | crates/request/src/labels.rt | crates/writer/src/placing.rt | crates/writer/src/step_line.rt) ;;
+        *) if [[ ! -e ${source%/*}/main.rt ]]; then sources+=("$source"); fi ;;
     esac
 done
 

@@ -17,6 +17,8 @@ pub mod Winter
 pub mod Witness
 pub mod Eve
 pub mod Orders
+pub mod Forms
+pub mod FormExamples
 pub mod Filings
 pub mod Bounds
 pub mod Asked

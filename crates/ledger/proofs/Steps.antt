@@ -1,5 +1,5 @@
 -- What holds of a ledger after any call: it is enough to show it of each call that is accepted, with what the call has
--- shown. A file is read first, and then its notification is judged.
+-- shown. A form is read first, and then its notification is judged.
 use mathlib.Core.Path.{_≡_, refl}
 use mathlib.Core.List.{List}
 use Prim.Native.Nat.{ℕ}

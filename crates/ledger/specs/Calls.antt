@@ -70,7 +70,7 @@ loadTests l actor category day most ps =
 abbrev pub moment : ℕ → ℕ → Clock
 moment day minute = record { day = day; minute = minute }
 
--- A CALL'S VERDICT; a filing is read first, by 1 to 8, and then judged, by 20 to 36
+-- A CALL'S VERDICT; a filing is read first, by 1 to 8 or by those of an object, and then judged, by 20 to 36
 unfoldable pub verdictOf : Ledger → Call → Verdict
 verdictOf l (enrolActor code first last) = firstMet (actorTests l code first last)
 verdictOf l (enrolCategory text) = firstMet (categoryTests l text)

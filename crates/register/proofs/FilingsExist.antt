@@ -15,12 +15,12 @@ use Rattle.refusals.specs.declared.Verdict.{Verdict}
 use Rattle.refusals.specs.declared.Verdict.the-variants.{Pass, No}
 use Rattle.notification.specs.declared.Notification.{Notification}
 use Rattle.ledger.specs.Ledger.{actorAt}
-use Rattle.ledger.specs.Call.{Call, csv, readForm, file}
+use Rattle.ledger.specs.Call.{Form, Call, csv, json, readForm, file}
 use Rattle.ledger.specs.Filing.{keyOf, statusBy, placeTests}
 use Rattle.ledger.specs.declared.Answer.{Answer}
 use Rattle.ledger.specs.declared.Answer.the-variants.{Filed, Refused}
 use Rattle.ledger.specs.declared.Entry.the-variants.{SevenDays}
-use Rattle.tables.specs.Tables.{Columns, keyNumber}
+use Rattle.tables.specs.Tables.{Columns, LoadColumns, keyNumber}
 use Rattle.recording.specs.Recording.{pairsBelow}
 use Rattle.recording.proofs.Puts.{put-length}
 use Rattle.recording.proofs.AllChanged.{Made, all-made}
@@ -32,16 +32,21 @@ use Rattle.register.specs.declared.verdicts.Places.{Places}
 use Rattle.register.proofs.Filings.{fileable-of}
 use Rattle.register.proofs.Notes.{note-refused, note-passed, form-unread, form-read}
 use Rattle.register.proofs.Records.{recorded, record-done}
-use Rattle.register.proofs.Runs.{did-file}
+use Rattle.register.proofs.Runs.{Did, did-file, did-object}
 use Rattle.register.proofs.Sized.{Sized, ref, Next}
 
--- the register that a filing finds, as its columns
-module _ (r : Register) (u name body : List ℕ) where
+-- the called function ensures what the ledger does, of the head, the columns and the answer that a filing leaves
+abbrev Ensures : Register → Call → Type 1
+Ensures r c = (h : Head) (w : Columns) (y : Answer) → seen (lent h w (r .loads)) y ≡ does r c → Did r c y (lent h w (r .loads))
+
+-- ---- a form, whichever
+
+module _ (r : Register) (u : List ℕ) (form : Form) (ensured : Ensures r (file SevenDays u form)) where
   abbrev filing : Call
-  filing = file SevenDays u (csv name body)
+  filing = file SevenDays u form
 
   abbrev note : Notification
-  note = readForm u (csv name body) .notification
+  note = readForm u form .notification
 
   abbrev ps : List ℕ
   ps = note .powers
@@ -58,18 +63,11 @@ module _ (r : Register) (u name body : List ℕ) where
   -- a call that leaves a register, and its answer
   next-is : (s : Register) (y : Answer) → s .loads ≡ r .loads → Sized s → seen s y ≡ does r filing → Next r filing
   next-is s y same z e =
-      let x = r .columns in
-      let w = s .columns in
-      let l = r .loads in
       record {
         answer = y;
-        register = lent (s .head) w l;
-        did = did-file ([], ([], ([], ([], ([], ([], ([], ([], ([], ([], ([], tt)))))))))))
-            (r .head, (ref (x .statuses), (ref (x .ids), (ref (x .keys), (ref (x .marks), (ref (x .rows), (ref (l .keys), (ref (l .approved), (ref (l .rows), (ref u, (ref name, (ref body, tt))))))))))))
-            (record { head = s .head; answer = y })
-            (r .head, (ref (w .statuses), (ref (w .ids), (ref (w .keys), (ref (w .marks), (ref (w .rows), (ref (l .keys), (ref (l .approved), (ref (l .rows), (ref u, (ref name, (ref body, tt))))))))))))
-            (λ t. ap (λ ls. seen (lent (s .head) w ls) y) (sym same) ∙ e);
-        sized = subst (λ ls. Sized (lent (s .head) w ls)) same z;
+        register = lent (s .head) (s .columns) (r .loads);
+        did = ensured (s .head) (s .columns) y (ap (λ ls. seen (lent (s .head) (s .columns) ls) y) (sym same) ∙ e);
+        sized = subst (λ ls. Sized (lent (s .head) (s .columns) ls)) same z;
       }
 
   module _ (z : Sized r) (can : Fileable (r .head) at) where
@@ -134,24 +132,51 @@ module _ (r : Register) (u name body : List ℕ) where
               };
         }
 
-  -- the file is read, and then judged by its places
-  by-places : Sized r → readForm u (csv name body) .verdict ≡ Pass → (v : Verdict) →
+  -- the form is read, and then judged by its places
+  by-places : Sized r → readForm u form .verdict ≡ Pass → (v : Verdict) →
       v ≡ firstMet (placeTests (held r) SevenDays (keyAt at) (at .submitter) ps) → Next r filing
   by-places z read (No f) e =
       next-is r (Refused f) refl z
-      (form-read r SevenDays u (csv name body) _ refl read _ (note-refused r SevenDays u note at placed (No f) e f refl))
+      (form-read r SevenDays u form _ refl read _ (note-refused r SevenDays u note at placed (No f) e f refl))
   by-places z read Pass e =
       let can = fileable-of (r .head) (r .columns) (r .loads) SevenDays at ps (sym e) in
       let s = z .records in
       let done = record-done (r .head) (r .loads) (r .columns) at ps _ _ _ _ _ (made z can .next) (made z can .after) can
       (s .statuses) (s .ids) (s .keys) (s .marks) (s .rows) refl refl refl refl refl (made z can .changes) in
       next-is (filed z can) (answer z can) refl (filed-sized z can)
-      (form-read r SevenDays u (csv name body) _ refl read _ (note-passed r SevenDays u note at placed Pass e refl _ done))
+      (form-read r SevenDays u form _ refl read _ (note-passed r SevenDays u note at placed Pass e refl _ done))
 
-  -- a filing, by what reading its file comes to
-  by-reading : Sized r → (v : Verdict) → readForm u (csv name body) .verdict ≡ v → Next r filing
-  by-reading z (No f) e = next-is r (Refused f) refl z (form-unread r SevenDays u (csv name body) _ refl f e)
+  -- a filing, by what reading its form comes to
+  by-reading : Sized r → (v : Verdict) → readForm u form .verdict ≡ v → Next r filing
+  by-reading z (No f) e = next-is r (Refused f) refl z (form-unread r SevenDays u form _ refl f e)
   by-reading z Pass e = by-places z e _ refl
 
-  pub next-file : Sized r → Next r filing
-  next-file z = by-reading z _ refl
+  next-form : Sized r → Next r filing
+  next-form z = by-reading z _ refl
+
+-- ---- a file, an object
+
+module _ (r : Register) (u : List ℕ) where
+  abbrev x : Columns
+  x = r .columns
+
+  abbrev l : LoadColumns
+  l = r .loads
+
+  pub next-file : (name body : List ℕ) → Sized r → Next r (file SevenDays u (csv name body))
+  next-file name body =
+      next-form r u (csv name body) (λ h w y e.
+      did-file ([], ([], ([], ([], ([], ([], ([], ([], ([], ([], ([], tt)))))))))))
+      (r .head, (ref (x .statuses), (ref (x .ids), (ref (x .keys), (ref (x .marks), (ref (x .rows), (ref (l .keys), (ref (l .approved), (ref (l .rows), (ref u, (ref name, (ref body, tt))))))))))))
+      (record { head = h; answer = y })
+      (r .head, (ref (w .statuses), (ref (w .ids), (ref (w .keys), (ref (w .marks), (ref (w .rows), (ref (l .keys), (ref (l .approved), (ref (l .rows), (ref u, (ref name, (ref body, tt))))))))))))
+      (λ t. e))
+
+  pub next-object : (body : List ℕ) → Sized r → Next r (file SevenDays u (json body))
+  next-object body =
+      next-form r u (json body) (λ h w y e.
+      did-object ([], ([], ([], ([], ([], ([], ([], ([], ([], ([], tt))))))))))
+      (r .head, (ref (x .statuses), (ref (x .ids), (ref (x .keys), (ref (x .marks), (ref (x .rows), (ref (l .keys), (ref (l .approved), (ref (l .rows), (ref u, (ref body, tt)))))))))))
+      (record { head = h; answer = y })
+      (r .head, (ref (w .statuses), (ref (w .ids), (ref (w .keys), (ref (w .marks), (ref (w .rows), (ref (l .keys), (ref (l .approved), (ref (l .rows), (ref u, (ref body, tt)))))))))))
+      (λ t. e))

@@ -7,6 +7,7 @@ pub mod Fits
 pub mod Filings
 pub mod Records
 pub mod Notes
+pub mod Objects
 pub mod Answers
 pub mod ShownRecords
 pub mod Telling

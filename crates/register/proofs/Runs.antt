@@ -10,7 +10,7 @@ use mathlib.Core.List.{List, [], _∷_}
 use Prim.Native.Nat.{ℕ}
 use lib.ListN.{length}
 use Rattle.ledger.specs.Ledger.{Ledger, fresh}
-use Rattle.ledger.specs.Call.{csv, Call, enrolActor, enrolCategory, load, file, advance}
+use Rattle.ledger.specs.Call.{csv, json, Call, enrolActor, enrolCategory, load, file, advance}
 use Rattle.ledger.specs.Calls.{step}
 use Rattle.ledger.specs.Asking.{askEngagement, askRecord, askHistory, historyIn}
 use Rattle.ledger.specs.Whole.{after, answersTo}
@@ -29,6 +29,7 @@ use Rattle.register.proofs.Head.enrol_actor.Reads as actor-reads
 use Rattle.register.proofs.Head.enrol_category.Reads as category-reads
 use Rattle.register.proofs.Head.load.Reads as load-reads
 use Rattle.register.proofs.Head.file.Reads as file-reads
+use Rattle.register.proofs.Head.file_object.Reads as object-reads
 use Rattle.register.proofs.Head.file_note.Reads as note-reads
 use Rattle.register.proofs.Head.advance.Reads as advance-reads
 use Rattle.register.proofs.Head.engagement.Reads as engagement-reads
@@ -38,6 +39,7 @@ use Rattle.register.proofs.Head.enrol_actor as actor-fn
 use Rattle.register.proofs.Head.enrol_category as category-fn
 use Rattle.register.proofs.Head.load as load-fn
 use Rattle.register.proofs.Head.file as file-fn
+use Rattle.register.proofs.Head.file_object as object-fn
 use Rattle.register.proofs.Head.file_note as note-fn
 use Rattle.register.proofs.Head.advance as advance-fn
 use Rattle.register.proofs.Head.engagement as engagement-fn
@@ -47,6 +49,7 @@ use Rattle.register.proofs.Head.enrol_actor.Kinds as actor-kinds
 use Rattle.register.proofs.Head.enrol_category.Kinds as category-kinds
 use Rattle.register.proofs.Head.load.Kinds as load-kinds
 use Rattle.register.proofs.Head.file.Kinds as file-kinds
+use Rattle.register.proofs.Head.file_object.Kinds as object-kinds
 use Rattle.register.proofs.Head.advance.Kinds as advance-kinds
 use Rattle.register.proofs.Head.engagement.Kinds as engagement-kinds
 use Rattle.register.proofs.Head.record.Kinds as record-kinds
@@ -79,6 +82,14 @@ pub data Did : Register → Call → Answer → Register → Type 1 where
       (lent (a .0) (columns (now (a .1 .0)) (now (a .1 .1 .0)) (now (a .1 .1 .1 .0)) (now (a .1 .1 .1 .1 .0)) (now (a .1 .1 .1 .1 .1 .0)))
       (loadColumns (now (a .1 .1 .1 .1 .1 .1 .0)) (now (a .1 .1 .1 .1 .1 .1 .1 .0)) (now (a .1 .1 .1 .1 .1 .1 .1 .1 .0))))
       (file SevenDays (now (a .1 .1 .1 .1 .1 .1 .1 .1 .1 .0)) (csv (now (a .1 .1 .1 .1 .1 .1 .1 .1 .1 .1 .0)) (now (a .1 .1 .1 .1 .1 .1 .1 .1 .1 .1 .1 .0)))) (y .answer)
+      (lent (y .head) (columns (now (s .1 .0)) (now (s .1 .1 .0)) (now (s .1 .1 .1 .0)) (now (s .1 .1 .1 .1 .0)) (now (s .1 .1 .1 .1 .1 .0)))
+      (loadColumns (now (a .1 .1 .1 .1 .1 .1 .0)) (now (a .1 .1 .1 .1 .1 .1 .1 .0)) (now (a .1 .1 .1 .1 .1 .1 .1 .1 .0))))
+  did-object : (κs : Lifetimes.Lfts 10) (a : World.ArgsD object-fn.signature κs) (y : Reply)
+      (s : Clauses.AtExit (Kinds.endedOf 10 object-kinds.ps object-kinds.r) κs) → (object-reads.Asked κs a → object-reads.Post κs a y s) →
+      Did
+      (lent (a .0) (columns (now (a .1 .0)) (now (a .1 .1 .0)) (now (a .1 .1 .1 .0)) (now (a .1 .1 .1 .1 .0)) (now (a .1 .1 .1 .1 .1 .0)))
+      (loadColumns (now (a .1 .1 .1 .1 .1 .1 .0)) (now (a .1 .1 .1 .1 .1 .1 .1 .0)) (now (a .1 .1 .1 .1 .1 .1 .1 .1 .0))))
+      (file SevenDays (now (a .1 .1 .1 .1 .1 .1 .1 .1 .1 .0)) (json (now (a .1 .1 .1 .1 .1 .1 .1 .1 .1 .1 .0)))) (y .answer)
       (lent (y .head) (columns (now (s .1 .0)) (now (s .1 .1 .0)) (now (s .1 .1 .1 .0)) (now (s .1 .1 .1 .1 .0)) (now (s .1 .1 .1 .1 .1 .0)))
       (loadColumns (now (a .1 .1 .1 .1 .1 .1 .0)) (now (a .1 .1 .1 .1 .1 .1 .1 .0)) (now (a .1 .1 .1 .1 .1 .1 .1 .1 .0))))
   did-advance : (cols : Columns) (ls : LoadColumns) (a : World.ArgsD advance-fn.signature tt) (y : Reply)
@@ -126,6 +137,7 @@ pub record AsksNothing : Type 1 where
   pub enrol-category : (κs : Lifetimes.Lfts 1) (a : World.ArgsD category-fn.signature κs) → category-reads.Asked κs a
   pub load : (κs : Lifetimes.Lfts 6) (a : World.ArgsD load-fn.signature κs) → load-reads.Asked κs a
   pub file : (κs : Lifetimes.Lfts 11) (a : World.ArgsD file-fn.signature κs) → file-reads.Asked κs a
+  pub file-object : (κs : Lifetimes.Lfts 10) (a : World.ArgsD object-fn.signature κs) → object-reads.Asked κs a
   pub file-note : (κs : Lifetimes.Lfts 9) (a : World.ArgsD note-fn.signature κs) → note-reads.Asked κs a
   pub advance : (a : World.ArgsD advance-fn.signature tt) → advance-reads.Asked tt a
   pub engagement : (κs : Lifetimes.Lfts 8) (a : World.ArgsD engagement-fn.signature κs) → engagement-reads.Asked κs a
@@ -140,6 +152,7 @@ asks-nothing =
       enrol-category = λ κs a. tt;
       load = λ κs a. tt;
       file = λ κs a. tt;
+      file-object = λ κs a. tt;
       file-note = λ κs a. tt;
       advance = λ a. tt;
       engagement = λ κs a. tt;
@@ -158,6 +171,7 @@ did-all (did-actor cols ls κs a y s e) = e (asks-nothing .enrol-actor κs a) co
 did-all (did-category cols ls κs a y s e) = e (asks-nothing .enrol-category κs a) cols ls
 did-all (did-load cols κs a y s e) = e (asks-nothing .load κs a) cols
 did-all (did-file κs a y s e) = e (asks-nothing .file κs a)
+did-all (did-object κs a y s e) = e (asks-nothing .file-object κs a)
 did-all (did-advance cols ls a y s e) = e (asks-nothing .advance a) cols ls
 
 pub did-step : {r s : Register} {c : Call} {y : Answer} → Did r c y s → (held s ≡ step (held r) c .ledger) × (y ≡ step (held r) c .answer)

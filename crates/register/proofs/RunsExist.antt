@@ -4,7 +4,7 @@
 use mathlib.Core.Path.{refl}
 use mathlib.Core.List.{List, [], _∷_}
 use Prim.Native.Nat.{ℕ}
-use Rattle.ledger.specs.Call.{csv, Call, enrolActor, enrolCategory, load, file, advance}
+use Rattle.ledger.specs.Call.{csv, json, Call, enrolActor, enrolCategory, load, file, advance}
 use Rattle.ledger.specs.declared.Answer.{Answer}
 use Rattle.ledger.specs.declared.Engaged.{Engaged}
 use Rattle.ledger.specs.declared.Entry.the-variants.{SevenDays}
@@ -17,7 +17,7 @@ use Rattle.register.specs.declared.Fresh.{Fresh}
 use Rattle.register.proofs.Runs.{Begun, begun, Ran, none, more, Engages, Shows, Lists}
 use Rattle.register.proofs.Sized.{LoadsSized, RecordsSized, Sized, Next}
 use Rattle.register.proofs.CallsExist.{next-advance, next-actor, next-category, next-load}
-use Rattle.register.proofs.FilingsExist.{next-file}
+use Rattle.register.proofs.FilingsExist.{next-file, next-object}
 use Rattle.register.proofs.AsksExist.{engagement-exists, record-exists, history-exists}
 
 -- ---- every list
@@ -27,6 +27,7 @@ next r z (enrolActor code first last) = next-actor r code first last z
 next r z (enrolCategory text) = next-category r text z
 next r z (load actor category day most ps) = next-load r actor category day most ps z
 next r z (file SevenDays submitter (csv name body)) = next-file r submitter name body z
+next r z (file SevenDays submitter (json body)) = next-object r submitter body z
 next r z (advance day minute) = next-advance r day minute z
 
 -- the answers of a list of calls, and the register that it leaves

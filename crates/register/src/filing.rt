@@ -1,6 +1,6 @@
 // Filing: a form is read; what was read is judged and recorded.
 ghost use mathlib.Core.Path.{_≡_};
-ghost use Rattle.ledger.specs.Call.{csv, file};
+ghost use Rattle.ledger.specs.Call.{csv, json, readForm, file};
 ghost use Rattle.ledger.specs.Filing.{statusBy};
 ghost use Rattle.tables.specs.Tables.{LoadColumns, columns, loadColumns};
 ghost use Rattle.register.specs.View.{lent};
@@ -13,10 +13,16 @@ use calendar::steps_of;
 use ledger::Answer;
 use ledger::Entry;
 use notification::Notification;
+use notification::Reading;
 use reader::reading::read_file;
+use reader::reading::refuse;
 use recording::changing::change_all;
 use recording::pairing::is_paired;
+use refusals::InputRefusal;
+use refusals::Refusal;
 use refusals::Verdict;
+use request_reader::reading::read_object;
+use tables::actors::is_text;
 use tables::records::CREATED;
 use tables::records::VALIDATED;
 use tables::records::key_number;
@@ -30,6 +36,27 @@ fn status_of(paired: bool) -> u8
     ensures { λ r. ⌜ r ≡ statusBy paired ⌝ }
 {
     if paired { VALIDATED } else { CREATED }
+}
+
+// What the object that a submitter files is read as: 42, 5 to 8, and 43 where its origin isn't the submitter.
+fn read_from(submitter: &[u8], body: &[u8]) -> Reading
+    ensures { λ r. ⌜ r ≡ readForm (now (submitter .entry)) (json (now (body .entry))) ⌝ }
+{
+    let read = read_object(body);
+    let verdict = read.verdict;
+    if let Verdict::No(r) = verdict {
+        return refuse(r);
+    }
+    let request = read.request;
+    let origin = request.origin;
+    if !is_text(origin, submitter) {
+        return refuse(Refusal::Input(InputRefusal::Origin, 0));
+    }
+    let notification = request.notification;
+    Reading {
+        verdict: Verdict::Pass,
+        notification,
+    }
 }
 
 impl Head {
@@ -191,6 +218,49 @@ impl Head {
             (file Entry.SevenDays (now (submitter .entry)) (csv (now (name .entry)) (now (body .entry)))) ⌝ }
     {
         let reading = read_file(name, body);
+        let verdict = reading.verdict;
+        if let Verdict::No(r) = verdict {
+            return self.refused(r);
+        }
+        self.file_note(
+            statuses,
+            ids,
+            keys,
+            marks,
+            rows,
+            numbers,
+            approved,
+            loads,
+            Entry::SevenDays,
+            submitter,
+            reading.notification,
+        )
+    }
+
+    // Files a notification by its submitter's code and the object of a request.
+    pub fn file_object(
+        self,
+        statuses: &mut [u8; 256],
+        ids: &mut [u32; 256],
+        keys: &mut [u32; 256],
+        marks: &mut [[u8; 4]; 256],
+        rows: &mut [[u16; 50]; 256],
+        numbers: &[u32; 64],
+        approved: &[u16; 64],
+        loads: &[[u16; 50]; 64],
+        submitter: &[u8],
+        body: &[u8],
+    ) -> Reply
+        ensures { λ r. ⌜ seen (lent (r .head)
+            (columns (now (statuses .exit)) (now (ids .exit)) (now (keys .exit)) (now (marks .exit)) (now (rows .exit)))
+            (loadColumns (now (numbers .entry)) (now (approved .entry)) (now (loads .entry)))) (r .answer)
+            ≡ does (lent self
+            (columns (now (statuses .entry)) (now (ids .entry)) (now (keys .entry)) (now (marks .entry))
+            (now (rows .entry)))
+            (loadColumns (now (numbers .entry)) (now (approved .entry)) (now (loads .entry))))
+            (file Entry.SevenDays (now (submitter .entry)) (json (now (body .entry)))) ⌝ }
+    {
+        let reading = read_from(submitter, body);
         let verdict = reading.verdict;
         if let Verdict::No(r) = verdict {
             return self.refused(r);

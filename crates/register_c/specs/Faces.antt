@@ -10,9 +10,17 @@ use Rattle.notification.specs.declared.Notification.{Notification}
 use Rattle.notification.specs.declared.Reading.{Reading}
 use Rattle.notification.specs.declared.Written.{Written}
 use Rattle.notification.specs.declared.Written.the-variants.{Lengths, Refused}
+use Rattle.request.specs.declared.Request.{Request}
+use Rattle.request.specs.declared.RequestRead.{RequestRead}
+use Rattle.request.specs.declared.RequestWritten.{RequestWritten}
+use Rattle.request.specs.declared.RequestWritten.the-variants as Unwritten
+use Rattle.request.specs.declared.RequestWritten.the-variants.{Length}
+use Rattle.ledger.specs.Call.{filedIn}
 use Rattle.ledger.specs.declared.Shown.{Shown}
 use Rattle.register_c.specs.declared.files.FileRead.{FileRead}
 use Rattle.register_c.specs.declared.files.FileWritten.{FileWritten}
+use Rattle.register_c.specs.declared.objects.ObjectRead.{ObjectRead}
+use Rattle.register_c.specs.declared.objects.ObjectWritten.{ObjectWritten}
 use Rattle.register_c.specs.declared.asking.RecordShown.{RecordShown}
 
 abbrev pub verdictNumber : Verdict → ℕ
@@ -50,6 +58,26 @@ noteToWrite x =
 abbrev pub flatWritten : Written → FileWritten
 flatWritten (Lengths name body) = record { number = 0; place = 0; name = name; body = body }
 flatWritten (Refused r) = record { number = numberOf r; place = placeOf r; name = 0; body = 0 }
+
+-- an object that was read: its notification as of a file, the moment of its submission and its origin
+abbrev pub flatObject : RequestRead → ObjectRead
+flatObject x =
+    record {
+      read = flatOf (filedIn x);
+      day = x .request .moment .day;
+      second = x .request .moment .second;
+      origin = x .request .origin;
+    }
+
+-- a request to write; number and place mean nothing there
+abbrev pub requestToWrite : ObjectRead → Request
+requestToWrite x =
+    record { notification = noteToWrite (x .read); origin = x .origin; moment = record { day = x .day; second = x .second } }
+
+-- the length of the object; 0 beside a refusal
+abbrev pub flatObjectWritten : RequestWritten → ObjectWritten
+flatObjectWritten (Length n) = record { number = 0; place = 0; length = n }
+flatObjectWritten (Unwritten.Refused r) = record { number = numberOf r; place = placeOf r; length = 0 }
 
 -- a record that is shown
 abbrev pub flatShown : Shown → RecordShown

@@ -1,6 +1,6 @@
 // The calls of demand 3's list, and a fresh register.
 ghost use mathlib.Core.Path.{_≡_};
-ghost use Rattle.ledger.specs.Call.{csv, enrolActor, enrolCategory, load, file, advance};
+ghost use Rattle.ledger.specs.Call.{csv, json, enrolActor, enrolCategory, load, file, advance};
 ghost use Rattle.ledger.specs.Ledger.{fresh};
 ghost use Rattle.tables.specs.Tables.{Columns, LoadColumns, columns, loadColumns};
 ghost use Rattle.register.specs.View.{view, lent};
@@ -103,6 +103,45 @@ pub extern "C" fn register_head_file(
         loads,
         submitter,
         name,
+        body,
+    );
+    turned(reply)
+}
+
+// Files a notification by its submitter's code and the object of a request, and says id, status and from-step.
+#[no_mangle]
+pub extern "C" fn register_head_file_object(
+    head: Head,
+    statuses: &mut [u8; 256],
+    ids: &mut [u32; 256],
+    keys: &mut [u32; 256],
+    marks: &mut [[u8; 4]; 256],
+    rows: &mut [[u16; 50]; 256],
+    numbers: &[u32; 64],
+    approved: &[u16; 64],
+    loads: &[[u16; 50]; 64],
+    submitter: &[u8],
+    body: &[u8],
+) -> Turn
+    ensures { λ r. ⌜ (let before = columns (now (statuses .entry)) (now (ids .entry))
+        (now (keys .entry)) (now (marks .entry)) (now (rows .entry)) in
+        let after = columns (now (statuses .exit)) (now (ids .exit))
+        (now (keys .exit)) (now (marks .exit)) (now (rows .exit)) in
+        let loaded = loadColumns (now (numbers .entry)) (now (approved .entry)) (now (loads .entry)) in
+        tells (lent (r .head) after loaded) (r .said)
+        ≡ told (does (lent head before loaded)
+        (file Entry.SevenDays (now (submitter .entry)) (json (now (body .entry)))))) ⌝ }
+{
+    let reply = head.file_object(
+        statuses,
+        ids,
+        keys,
+        marks,
+        rows,
+        numbers,
+        approved,
+        loads,
+        submitter,
         body,
     );
     turned(reply)

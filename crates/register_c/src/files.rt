@@ -36,7 +36,7 @@ pub struct FileWritten {
     pub body: usize,
 }
 
-fn flat(x: Reading) -> FileRead
+pub(crate) fn flat(x: Reading) -> FileRead
     ensures { λ r. ⌜ r ≡ flatOf x ⌝ }
 {
     let verdict = x.verdict;
@@ -59,7 +59,7 @@ fn flat(x: Reading) -> FileRead
 }
 
 // The notification of a flat struct.
-fn note_to_write(x: FileRead) -> Notification
+pub(crate) fn note_to_write(x: FileRead) -> Notification
     ensures { λ r. ⌜ r ≡ noteToWrite x ⌝ }
 {
     let ceder = x.ceder;

@@ -20,7 +20,7 @@ pub struct Actors {
 }
 
 // Whether a code is this text. Each byte is looked at, so that many are compared at once.
-fn is_text(code: [u8; 16], s: &[u8]) -> bool
+pub fn is_text(code: [u8; 16], s: &[u8]) -> bool
     ensures { λ r. ⌜ r ≡ same code (now (s .entry)) ⌝ }
 {
     if s.len() != 16 {
