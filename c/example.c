@@ -1,5 +1,5 @@
-/* Two actors exchange reserve on a long day, in the intraday too, after one of them has filed for the day that follows it; every
- * answer is printed. What it must print is in example.stdout. */
+/* Two actors exchange reserve on a long day, in the intraday too, after one of them has filed for the day that follows it, and then the
+ * other answers that file by an object of the machine interface; every answer is printed. What it must print is in example.stdout. */
 #include <stdio.h>
 #include <string.h>
 
@@ -45,11 +45,9 @@ static void load(const char *actor, uint32_t day, uint32_t approved, uint32_t po
     print("load", register_load(&state, TEXT(actor), TEXT(category), day, approved, powers, calendar_steps(day)));
 }
 
-/* Files an exchange of one power from north to south, by one of them. */
-static void file(const char *submitter, uint32_t day, uint16_t power)
+/* An exchange of one power from north to south. */
+static notification_file exchange(uint32_t day, uint16_t power)
 {
-    uint8_t name[NOTIFICATION_NAME];
-    uint8_t body[NOTIFICATION_BODY];
     notification_file n = {.day = day, .steps = calendar_steps(day)};
     memcpy(n.ceder, north, sizeof n.ceder);
     memcpy(n.acquirer, south, sizeof n.acquirer);
@@ -57,13 +55,52 @@ static void file(const char *submitter, uint32_t day, uint16_t power)
     for (uint32_t k = 0; k < n.steps; k++) {
         n.powers[k] = power;
     }
-    notification_written written = notification_write(n, name, sizeof name, body, sizeof body);
+    return n;
+}
+
+/* Files such an exchange by one of them. */
+static void file(const char *submitter, uint32_t day, uint16_t power)
+{
+    uint8_t name[NOTIFICATION_NAME];
+    uint8_t body[NOTIFICATION_BODY];
+    notification_written written = notification_write(exchange(day, power), name, sizeof name, body, sizeof body);
     if (written.number != 0) {
         printf("write: refused by %u at %u\n", (unsigned)written.number, (unsigned)written.place);
         return;
     }
     printf("%.*s, %zu bytes\n", (int)written.name, (const char *)name, written.body);
     print("file", register_file(&state, TEXT(submitter), name, written.name, body, written.body));
+}
+
+/* Reads an object and prints what it says. */
+static void read_object(const uint8_t *body, size_t body_length)
+{
+    register_object object = register_object_read(body, body_length);
+    if (object.read.number != 0) {
+        printf("read: refused by %u at %u\n", (unsigned)object.read.number, (unsigned)object.read.place);
+        return;
+    }
+    calendar_text date = calendar_date(object.read.day), submitted = calendar_date(object.day);
+    printf("read: %.16s to %.16s, %.8s, %.6s, %u steps, %u MW at first, by %.16s on %.8s, second %u\n",
+           (const char *)object.read.ceder, (const char *)object.read.acquirer, (const char *)date.digits,
+           (const char *)object.read.category, (unsigned)object.read.steps, (unsigned)object.read.powers[0],
+           (const char *)object.origin, (const char *)submitted.digits, (unsigned)object.second);
+}
+
+/* Files such an exchange as the object of a request that one of them sends, and reads it back. */
+static void file_object(const char *submitter, const char *origin, uint32_t day, uint16_t power)
+{
+    uint8_t body[NOTIFICATION_OBJECT];
+    register_object object = {.read = exchange(day, power), .day = state.head.clock.day, .second = 60 * state.head.clock.minute};
+    memcpy(object.origin, origin, sizeof object.origin);
+    register_object_written written = register_object_write(object, body, sizeof body);
+    if (written.number != 0) {
+        printf("write: refused by %u at %u\n", (unsigned)written.number, (unsigned)written.place);
+        return;
+    }
+    printf("%.*s..., %zu bytes\n", 41, (const char *)body, written.length);
+    read_object(body, written.length);
+    print("file object", register_file_object(&state, TEXT(submitter), body, written.length));
 }
 
 static void engagement(const char *actor, uint32_t day, uint32_t step)
@@ -126,5 +163,14 @@ int main(void)
     print("history", register_history(&state, TEXT(south), ids, 4));
     file(north, day, 61);
     print("advance", register_advance(&state, day, 599));
+
+    /* North filed the day after as a file; south answers by an object, whose origin it must be. */
+    engagement(south, day + 1, 0);
+    file_object(south, north, day + 1, 30);
+    file_object(south, south, day + 1, 30);
+    record(south, 1);
+    record(north, 6);
+    engagement(south, day + 1, 0);
+    read_object(TEXT("{ }"));
     return 0;
 }

@@ -6,10 +6,10 @@
  * The caller holds the register: one struct, register_state, to which each call gets a pointer. register_fresh begins it, and calls go
  * one after another. There is no heap and no hidden state.
  *
- * Every function answers for every argument: a result, or one refusal of document 01 as its number and place. A refused call changes
- * nothing. A text or a list is a pointer and a length; it may be anything, and its form is judged by the call. A pointer is never null
- * and must be good for its length, or for the whole struct or array that it stands for, and what a call may write must not overlap what
- * else it is lent.
+ * Every function answers for every argument: a result, or one refusal of document 01 or 02 as its number and place. A refused call
+ * changes nothing. A text or a list is a pointer and a length; it may be anything, and its form is judged by the call. A pointer is
+ * never null and must be good for its length, or for the whole struct or array that it stands for, and what a call may write must not
+ * overlap what else it is lent.
  */
 #ifndef REGISTER_H
 #define REGISTER_H
@@ -32,9 +32,10 @@ extern "C" {
 #define REGISTER_RECORDS 256
 #define REGISTER_STEPS 50
 
-/* Buffers of these lengths take every name and every body that is written. */
+/* Buffers of these lengths take every name, every body and every object that is written. */
 #define NOTIFICATION_NAME 57
 #define NOTIFICATION_BODY 967
+#define NOTIFICATION_OBJECT 2737
 
 /* What calendar_day gives for a text that is no date. */
 #define CALENDAR_NO_DAY 36525
@@ -152,6 +153,22 @@ typedef struct {
     size_t body;
 } notification_written;
 
+/* The object of a request, by document 02, K3: number and place of the refusal and the notification as of a file; then day and second of
+ * the submission, and the origin, which are zeros beside a refusal too. */
+typedef struct {
+    notification_file read;
+    uint32_t day;
+    uint32_t second;
+    uint8_t origin[16];
+} register_object;
+
+/* Number and place of the refusal, 0 and 0 where there is none; then the length of the object. */
+typedef struct {
+    uint32_t number;
+    uint32_t place;
+    size_t length;
+} register_object_written;
+
 /* The eight digits of a date, without a final 0. */
 typedef struct {
     uint8_t digits[8];
@@ -190,6 +207,12 @@ register_turn register_head_file(register_head head, uint8_t statuses[REGISTER_R
                                  const uint16_t approved[REGISTER_LOADS], const register_row loads[REGISTER_LOADS],
                                  const uint8_t *submitter, size_t submitter_length, const uint8_t *name, size_t name_length,
                                  const uint8_t *body, size_t body_length);
+
+register_turn register_head_file_object(register_head head, uint8_t statuses[REGISTER_RECORDS], uint32_t ids[REGISTER_RECORDS],
+                                        uint32_t keys[REGISTER_RECORDS], register_mark marks[REGISTER_RECORDS],
+                                        register_row rows[REGISTER_RECORDS], const uint32_t numbers[REGISTER_LOADS],
+                                        const uint16_t approved[REGISTER_LOADS], const register_row loads[REGISTER_LOADS],
+                                        const uint8_t *submitter, size_t submitter_length, const uint8_t *body, size_t body_length);
 
 register_turn register_head_advance(register_head head, uint32_t day, uint32_t minute);
 
@@ -259,6 +282,16 @@ static inline register_said register_file(register_state *r, const uint8_t *subm
                                                r->loads, submitter, submitter_length, name, name_length, body, body_length));
 }
 
+/* Files a notification by the machine interface: the submitter's code, and the object of a request. It meets the same ledger as a file
+ * does, and one party's file can answer the other's object. Values: as of a file. Refusals 42, 5 to 8, 43, then 20 to 36; the place of 6
+ * and 7 is the step, counted from 1. */
+static inline register_said register_file_object(register_state *r, const uint8_t *submitter, size_t submitter_length,
+                                                 const uint8_t *body, size_t body_length)
+{
+    return register_keep(r, register_head_file_object(r->head, r->statuses, r->ids, r->keys, r->marks, r->rows, r->numbers,
+                                                      r->approved, r->loads, submitter, submitter_length, body, body_length));
+}
+
 /* Advances the clock; the same moment is accepted. No values. Refusals 10, 38. */
 static inline register_said register_advance(register_state *r, uint32_t day, uint32_t minute)
 {
@@ -295,6 +328,16 @@ notification_file notification_read(const uint8_t *name, size_t name_length, con
 /* Writes a notification's name and body into two lent buffers, the rest untouched; number and place of the notification are not looked
  * at. Refusals 9, 10, 8, 36. */
 notification_written notification_write(notification_file n, uint8_t *name, size_t name_length, uint8_t *body, size_t body_length);
+
+/* ---- The object of a request, by document 02, K3: eight members in their order, blanks between the tokens or none. ---- */
+
+/* Reads an object of at most 8,192 bytes. Refusals 42, then 5 to 8; the place of 6 and 7 is the step, counted from 1. */
+register_object register_object_read(const uint8_t *body, size_t body_length);
+
+/* Writes the object of a notification, an origin and the moment of the submission into a lent buffer, without blanks, the rest untouched;
+ * number and place are not looked at. The second is one of the day's 86,400. Refusals 9, the origin's form among it, 10, the moment's
+ * range among it, 8, 36. */
+register_object_written register_object_write(register_object object, uint8_t *buffer, size_t buffer_length);
 
 /* ---- Days. ---- */
 
@@ -350,6 +393,12 @@ REGISTER_CHECK(offsetof(notification_file, acquirer) == 132);
 REGISTER_CHECK(offsetof(notification_file, category) == 148);
 REGISTER_CHECK(sizeof(notification_written) == 8 + 2 * sizeof(size_t));
 REGISTER_CHECK(offsetof(notification_written, name) == 8);
+REGISTER_CHECK(sizeof(register_object) == 180);
+REGISTER_CHECK(offsetof(register_object, day) == 156);
+REGISTER_CHECK(offsetof(register_object, second) == 160);
+REGISTER_CHECK(offsetof(register_object, origin) == 164);
+REGISTER_CHECK(sizeof(register_object_written) == 8 + sizeof(size_t));
+REGISTER_CHECK(offsetof(register_object_written, length) == 8);
 REGISTER_CHECK(sizeof(calendar_text) == 8);
 
 #ifdef __cplusplus

@@ -14,7 +14,7 @@ fn main() {
     for fault in &FAULTS {
         let folder = out.join(fault.name);
         fs::create_dir_all(&folder).expect("a folder for the copy");
-        for file in ["lib.rs", "calendar.rs", "notification.rs", "register.rs"] {
+        for file in ["lib.rs", "calendar.rs", "notification.rs", "object.rs", "register.rs"] {
             let mut text = fs::read_to_string(peer.join(file)).expect("the peer's source");
             if file == fault.file {
                 let times = text.matches(fault.old).count();

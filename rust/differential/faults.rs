@@ -13,7 +13,7 @@ pub struct Fault {
     pub new: &'static str,
 }
 
-pub const FAULTS: [Fault; 17] = [
+pub const FAULTS: [Fault; 28] = [
     Fault {
         name: "neutral_hour_rounded_up",
         breaks: "First counted step: floor(m/30)+2 for the clock's day",
@@ -143,5 +143,89 @@ pub const FAULTS: [Fault; 17] = [
         file: "register.rs",
         old: "hold(day > self.day && self.first_counted(day) == 0, 39)?;",
         new: "hold(day > self.day, 39)?;",
+    },
+    Fault {
+        name: "origin_not_compared",
+        breaks: "K3: 43 when the origin member isn't the submitter",
+        file: "register.rs",
+        old: "hold(object.origin == *submitter, 43)?;",
+        new: "",
+    },
+    Fault {
+        name: "origin_before_the_powers",
+        breaks: "K3: 43 next after 8",
+        file: "register.rs",
+        old: "object::read(body)?;",
+        new: "object::read(body).map_err(|r| {
+            let codes = body.windows(18).filter(|t| [t[0], t[17]] == *b\"\\\"\\\"\" && code_of(&t[1..17]).is_some());
+            let other = codes.map(|t| &t[1..17]).nth(2).is_some_and(|origin| origin != submitter);
+            if r.number == 8 && other { no(43, 0) } else { r }
+        })?;",
+    },
+    Fault {
+        name: "steps_of_an_object_counted_from_0",
+        breaks: "K3: the place of 6 and 7 the step counted from 1",
+        file: "object.rs",
+        old: "no(number, s.len + 1)",
+        new: "no(number, s.len)",
+    },
+    Fault {
+        name: "labels_before_the_step_count",
+        breaks: "K3: with 5 to 8 following",
+        file: "object.rs",
+        old: "_ if len != count => Err(no(5, 0)),\n        Some(refusal) => Err(refusal),",
+        new: "Some(refusal) => Err(refusal),\n        _ if len != count => Err(no(5, 0)),",
+    },
+    Fault {
+        name: "power_before_the_labels",
+        breaks: "6 and 7 are tried line by line, 6 first",
+        file: "object.rs",
+        old: "if start.right && end.right { value.is_none().then_some(7) } else { Some(6) };",
+        new: "if value.is_none() { Some(7) } else { (!start.right || !end.right).then_some(6) };",
+    },
+    Fault {
+        name: "last_wrong_step_named",
+        breaks: "6 and 7 are tried line by line",
+        file: "object.rs",
+        old: "s.fault.or(fault.map(|number| no(number, s.len + 1)))",
+        new: "fault.map(|number| no(number, s.len + 1)).or(s.fault)",
+    },
+    Fault {
+        name: "delivery_at_any_time",
+        breaks: "K3: the delivery day is the date part of DateExploitation and its time is 00:00:00",
+        file: "object.rs",
+        old: "2099-19-39T00:00:00Z",
+        new: "2099-19-39T29:59:59Z",
+    },
+    Fault {
+        name: "comma_after_the_last_step",
+        breaks: "K3: 42 when the text isn't such an object",
+        file: "object.rs",
+        old: "[b',', rest @ ..] => text = rest,",
+        new: "[b',', rest @ ..] => match blanks(rest) {
+                [b']', rest @ ..] => return Some((s, rest)),
+                _ => text = rest,
+            },",
+    },
+    Fault {
+        name: "text_after_the_object",
+        breaks: "K3: blanks, tabs, CR and LF may stand around the object",
+        file: "object.rs",
+        old: "if !blanks(token(rest, b\"}\")?).is_empty() {",
+        new: "if token(rest, b\"}\").is_none() {",
+    },
+    Fault {
+        name: "object_one_byte_too_long",
+        breaks: "K3: a JSON body is at most 8,192 bytes",
+        file: "object.rs",
+        old: "hold(body.len() <= MAX_OBJECT, 42)?;",
+        new: "hold(body.len() <= MAX_OBJECT + 1, 42)?;",
+    },
+    Fault {
+        name: "no_tab_between_tokens",
+        breaks: "K3: blanks, tabs, CR and LF may stand between tokens",
+        file: "object.rs",
+        old: "while let [b' ' | b'\\t' | b'\\r' | b'\\n', rest @ ..] = text {",
+        new: "while let [b' ' | b'\\r' | b'\\n', rest @ ..] = text {",
     },
 ];

@@ -12,6 +12,7 @@ pub enum Call {
     EnrolCategory { text: Vec<u8> },
     Load { actor: Vec<u8>, category: Vec<u8>, day: u32, approved: u32, powers: Vec<u32> },
     File { submitter: Vec<u8>, name: Vec<u8>, body: Vec<u8> },
+    FileObject { submitter: Vec<u8>, body: Vec<u8> },
     Engagement { actor: Vec<u8>, category: Vec<u8>, day: u32, step: u32 },
     Record { asker: Vec<u8>, id: u32 },
     History { actor: Vec<u8>, length: usize },
@@ -25,11 +26,14 @@ pub enum Kind {
     EnrolCategory,
     Load,
     File,
+    FileObject,
     Engagement,
     Record,
     History,
     Read,
     Write,
+    ReadObject,
+    WriteObject,
 }
 
 impl Call {
@@ -40,6 +44,7 @@ impl Call {
             Call::EnrolCategory { .. } => Kind::EnrolCategory,
             Call::Load { .. } => Kind::Load,
             Call::File { .. } => Kind::File,
+            Call::FileObject { .. } => Kind::FileObject,
             Call::Engagement { .. } => Kind::Engagement,
             Call::Record { .. } => Kind::Record,
             Call::History { .. } => Kind::History,
@@ -59,6 +64,9 @@ impl fmt::Display for Call {
             }
             Call::File { submitter, name, body } => {
                 write!(f, "file by {} {}\n        {}", text(submitter), text(name), text(body))
+            }
+            Call::FileObject { submitter, body } => {
+                write!(f, "file by {} the object\n        {}", text(submitter), text(body))
             }
             Call::Engagement { actor, category, day, step } => {
                 write!(f, "engagement {} {} day {day} step {step}", text(actor), text(category))
@@ -106,9 +114,8 @@ pub fn make<S: Side>(side: &mut S, call: &Call) -> Answer {
         Call::Load { actor, category, day, approved, powers } => {
             side.load(actor, category, *day, *approved, powers).map(Answer::Count)
         }
-        Call::File { submitter, name, body } => side
-            .file(submitter, name, body)
-            .map(|(id, status, from)| Answer::Filed { id, status: status as char, from }),
+        Call::File { submitter, name, body } => side.file(submitter, name, body).map(filed),
+        Call::FileObject { submitter, body } => side.file_object(submitter, body).map(filed),
         Call::Engagement { actor, category, day, step } => {
             side.engagement(actor, category, *day, *step).map(Answer::Power)
         }
@@ -116,6 +123,10 @@ pub fn make<S: Side>(side: &mut S, call: &Call) -> Answer {
         Call::History { actor, length } => return history(side, actor, *length),
     };
     answer.unwrap_or_else(|(number, place)| Answer::No { number, place })
+}
+
+fn filed((id, status, from): (u32, u8, u32)) -> Answer {
+    Answer::Filed { id, status: status as char, from }
 }
 
 fn history<S: Side>(side: &S, actor: &[u8], length: usize) -> Answer {

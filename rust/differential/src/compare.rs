@@ -4,10 +4,11 @@ use std::collections::BTreeSet;
 use std::fmt::Debug;
 
 use peer::calendar::{day_of, steps};
+use peer::object;
 
 use crate::calls::{make, Answer, Call};
 use crate::sides::Side;
-use crate::tally::{Late, Listed, Tally};
+use crate::tally::{Form, Late, Listed, Tally};
 
 /// Where two sides differ.
 pub struct Difference {
@@ -18,12 +19,22 @@ pub struct Difference {
     pub right: String,
 }
 
-/// A record: its parties and its day, and its status when it was last asked for.
+/// A record: its key, who filed it and whether by an object, and its status when it was last asked for.
 struct Held {
     ceder: Vec<u8>,
     acquirer: Vec<u8>,
+    category: Vec<u8>,
     day: u16,
+    submitter: Vec<u8>,
+    object: bool,
     status: char,
+}
+
+impl Held {
+    fn has_key_of(&self, other: &Held) -> bool {
+        let parties = self.ceder == other.ceder && self.acquirer == other.acquirer;
+        parties && self.category == other.category && self.day == other.day
+    }
 }
 
 /// What the list has accepted so far, by the left side's answers.
@@ -84,18 +95,37 @@ impl Seen {
             (Call::EnrolActor { code, .. }, _) => self.actors.push(code.clone()),
             (Call::EnrolCategory { text }, _) => self.categories.push(text.clone()),
             (Call::Load { day, .. }, _) => self.days.extend([*day]),
-            (Call::File { name, .. }, Answer::Filed { status, from, .. }) => {
+            (Call::File { submitter, name, .. }, Answer::Filed { status, from, .. }) => {
                 let day = day_of(&name[38..46]).expect("an accepted name has a date");
-                tally.filed(steps(day), *from);
-                if *from == 1 {
-                    tally.late(Late::Filed(steps(self.day as u16), steps(day)));
-                }
                 let (ceder, acquirer) = (name[4..20].to_vec(), name[21..37].to_vec());
-                self.records.push(Held { ceder, acquirer, day, status: *status });
-                tally.change('-', *status);
+                let (category, submitter) = (name[47..name.len() - 4].to_vec(), submitter.clone());
+                let held = Held { ceder, acquirer, category, day, submitter, object: false, status: *status };
+                self.filed(held, *from, false, tally);
+            }
+            (Call::FileObject { submitter, body }, Answer::Filed { status, from, .. }) => {
+                // Where the peer reads no object, the answers differ.
+                let Ok(n) = object::read(body).map(|object| object.notification) else { return };
+                let category = n.category.strip_suffix(&[0]).unwrap_or(&n.category).to_vec();
+                let (ceder, acquirer, submitter) = (n.ceder.to_vec(), n.acquirer.to_vec(), submitter.clone());
+                let held = Held { ceder, acquirer, category, day: n.day, submitter, object: true, status: *status };
+                let blanks = body.iter().any(|b| b" \t\r\n".contains(b));
+                self.filed(held, *from, blanks, tally);
             }
             _ => {}
         }
+    }
+
+    /// An accepted filing. Of the other party's records under the key only the last can be one that it answers.
+    fn filed(&mut self, held: Held, from: u32, blanks: bool, tally: &mut Tally) {
+        tally.filed(steps(held.day), from);
+        if from == 1 {
+            tally.late(Late::Filed(steps(self.day as u16), steps(held.day)));
+        }
+        let mut others = self.records.iter().rev().filter(|r| r.has_key_of(&held) && r.submitter != held.submitter);
+        let answered = others.next().filter(|_| held.status == 'V').map(|r| r.object);
+        tally.form(Form { object: held.object, blanks, status: held.status, answered });
+        tally.change('-', held.status);
+        self.records.push(held);
     }
 
     /// The records that an actor is a party to, in the order of filing.

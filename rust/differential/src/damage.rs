@@ -1,4 +1,9 @@
-//! Files with mistakes.
+//! Files and objects with mistakes.
+
+mod objects;
+mod values;
+
+pub use objects::damaged_object;
 
 use crate::notes::{code, Note};
 use crate::random::Random;

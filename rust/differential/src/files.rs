@@ -39,7 +39,7 @@ pub fn calendar(random: &mut Random) -> Result<(), String> {
     Ok(())
 }
 
-fn note(random: &mut Random) -> Note {
+pub fn note(random: &mut Random) -> Note {
     let days: [&[u8]; 7] = [b"20210328", b"20211031", b"20000326", b"20210120", b"20000101", b"20991231", b"20240229"];
     let date = random.pick(&days).to_vec();
     let count = day_of(&date).map_or(48, steps);

@@ -2,16 +2,19 @@
 //! history. Then the test of the test: each faulty copy of the peer must be told from the register by the same lists.
 //!
 //! `LISTS` and `SEED` set how many lists there are and which; the seed of a run is printed. Status 1 says that something differs, that
-//! a refusal, a change of a status, a kind of history or a case of the last half hour was never met, or that a fault was not found; the
-//! last two are asked of long runs only.
+//! a refusal, a change of a status, a form of a filing, a kind of history or a case of the last half hour was never met, or that a fault
+//! was not found; the last two are asked of long runs only.
 
 mod calls;
 mod compare;
 mod damage;
 mod files;
+mod layouts;
 mod lists;
 mod notes;
+mod objects;
 mod random;
+mod requests;
 mod sides;
 mod tally;
 
@@ -92,6 +95,9 @@ faults!(
     lines_counted_after_the_fault history_in_the_order_of_filing history_latest_day_first
     history_highest_id_first_within_a_day last_place_of_a_buffer_left_out neutral_hour_ends_at_midnight
     step_count_of_the_delivery_day tomorrows_exchange_obsolete load_for_tomorrow_in_the_last_half_hour
+    origin_not_compared origin_before_the_powers steps_of_an_object_counted_from_0 labels_before_the_step_count
+    power_before_the_labels last_wrong_step_named
+    delivery_at_any_time comma_after_the_last_step text_after_the_object object_one_byte_too_long no_tab_between_tokens
 );
 
 fn failed(what: impl Display) -> ExitCode {
@@ -109,10 +115,16 @@ fn main() -> ExitCode {
     if let Err(what) = files::calendar(&mut random) {
         return failed(what);
     }
-    for _ in 0..20 * lists {
-        let both = files::reading(&mut random, &mut tally).and_then(|()| files::writing(&mut random, &mut tally));
-        if let Err(what) = both {
+    for _ in 0..lists.div_ceil(400) {
+        if let Err(what) = objects::every_byte(&mut random, &mut tally) {
             return failed(what);
+        }
+    }
+    for _ in 0..20 * lists {
+        for compare in [files::reading, files::writing, objects::reading, objects::writing] {
+            if let Err(what) = compare(&mut random, &mut tally) {
+                return failed(what);
+            }
         }
     }
     for number in 0..lists {

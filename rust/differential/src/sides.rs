@@ -28,6 +28,7 @@ pub trait Side: Clone {
     fn enrol_category(&mut self, text: &[u8]) -> Result<u32, No>;
     fn load(&mut self, actor: &[u8], category: &[u8], day: u32, approved: u32, powers: &[u32]) -> Result<u32, No>;
     fn file(&mut self, submitter: &[u8], name: &[u8], body: &[u8]) -> Result<(u32, u8, u32), No>;
+    fn file_object(&mut self, submitter: &[u8], body: &[u8]) -> Result<(u32, u8, u32), No>;
     fn engagement(&self, actor: &[u8], category: &[u8], day: u32, step: u32) -> Result<i64, No>;
     fn record(&self, asker: &[u8], id: u32) -> Result<Shown, No>;
     fn history(&self, actor: &[u8], ids: &mut [u32]) -> Result<usize, No>;
@@ -59,6 +60,9 @@ impl Side for Register {
     }
     fn file(&mut self, submitter: &[u8], name: &[u8], body: &[u8]) -> Result<(u32, u8, u32), No> {
         self.file(submitter, name, body).map(|f| (f.id, f.status as u8, f.from)).map_err(refused)
+    }
+    fn file_object(&mut self, submitter: &[u8], body: &[u8]) -> Result<(u32, u8, u32), No> {
+        self.file_object(submitter, body).map(|f| (f.id, f.status as u8, f.from)).map_err(refused)
     }
     fn engagement(&self, actor: &[u8], category: &[u8], day: u32, step: u32) -> Result<i64, No> {
         self.engagement(actor, category, Day(day), step).map(i64::from).map_err(refused)
@@ -131,6 +135,10 @@ macro_rules! peer_side {
                 }
                 fn file(&mut self, submitter: &[u8], name: &[u8], body: &[u8]) -> Result<(u32, u8, u32), No> {
                     let filed = self.register.file(submitter, name, body).map_err(refused)?;
+                    Ok((filed.id as u32, filed.status as u8, filed.from as u32))
+                }
+                fn file_object(&mut self, submitter: &[u8], body: &[u8]) -> Result<(u32, u8, u32), No> {
+                    let filed = self.register.file_object(submitter, body).map_err(refused)?;
                     Ok((filed.id as u32, filed.status as u8, filed.from as u32))
                 }
                 fn engagement(&self, actor: &[u8], category: &[u8], day: u32, step: u32) -> Result<i64, No> {

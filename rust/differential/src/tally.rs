@@ -1,5 +1,5 @@
-//! How often each answer, each refusal, each change of a status, each kind of history and each case of a day's last half hour was
-//! met.
+//! How often each answer, each refusal, each change of a status, each form of an accepted filing, each kind of history and each case of
+//! a day's last half hour was met.
 
 use std::collections::{BTreeMap, BTreeSet};
 
@@ -7,18 +7,42 @@ use peer::calendar::steps;
 
 use crate::calls::{Answer, Kind};
 
-/// The refusals that each call can give, by document 01's "Order".
-const REFUSALS: [(Kind, &[u32]); 10] = [
+/// The refusals that each call can give, by document 01's "Order" and K3 of document 02.
+const REFUSALS: [(Kind, &[u32]); 13] = [
     (Kind::Advance, &[10, 38]),
     (Kind::EnrolActor, &[9, 10, 37, 36]),
     (Kind::EnrolCategory, &[9, 37, 36]),
     (Kind::Load, &[10, 22, 23, 39, 37, 36]),
     (Kind::File, &[1, 2, 3, 4, 5, 6, 7, 8, 20, 21, 22, 23, 24, 25, 26, 27, 28, 29, 30, 31, 32, 33, 34, 35, 36]),
+    (Kind::FileObject, &[42, 5, 6, 7, 8, 43, 20, 21, 22, 23, 24, 25, 26, 27, 28, 29, 30, 31, 32, 33, 34, 35, 36]),
     (Kind::Engagement, &[22, 23, 10]),
     (Kind::Record, &[22, 40, 41]),
     (Kind::History, &[22, 36]),
     (Kind::Read, &[1, 2, 3, 4, 5, 6, 7, 8]),
     (Kind::Write, &[9, 10, 8, 36]),
+    (Kind::ReadObject, &[42, 5, 6, 7, 8]),
+    (Kind::WriteObject, &[9, 10, 8, 36]),
+];
+
+/// An accepted filing: whether it is an object, with blanks or not, its status, and whether what it answers is an object.
+#[derive(Clone, Copy)]
+pub struct Form {
+    pub object: bool,
+    pub blanks: bool,
+    pub status: char,
+    pub answered: Option<bool>,
+}
+
+const FORMS: [(&str, fn(Form) -> bool); 9] = [
+    ("files C", |form| !form.object && form.status == 'C'),
+    ("files V", |form| !form.object && form.status == 'V'),
+    ("objects C", |form| form.object && form.status == 'C'),
+    ("objects V", |form| form.object && form.status == 'V'),
+    ("objects with blanks", |form| form.object && form.blanks),
+    ("objects without", |form| form.object && !form.blanks),
+    ("objects that answer a file", |form| form.object && form.answered == Some(false)),
+    ("files that answer an object", |form| !form.object && form.answered == Some(true)),
+    ("objects that answer an object", |form| form.object && form.answered == Some(true)),
 ];
 
 /// Steps of the day of an accepted filing, and whether its first counted step is 0.
@@ -102,6 +126,7 @@ pub struct Tally {
     answers: BTreeMap<(Kind, u32), u64>,
     changes: BTreeMap<(char, char), u64>,
     days: BTreeMap<(usize, bool), u64>,
+    forms: [u64; FORMS.len()],
     /// Histories that fit into their buffer, of one record or more.
     listed: u64,
     histories: [u64; HISTORIES.len()],
@@ -127,6 +152,10 @@ impl Tally {
         *self.days.entry((steps, from == 0)).or_default() += 1;
     }
 
+    pub fn form(&mut self, form: Form) {
+        self.forms.iter_mut().zip(FORMS).for_each(|(count, (_, is))| *count += is(form) as u64);
+    }
+
     pub fn change(&mut self, from: char, to: char) {
         *self.changes.entry((from, to)).or_default() += 1;
     }
@@ -149,7 +178,7 @@ impl Tally {
         self.answers.values().sum()
     }
 
-    /// Prints all counts and gives what was not met though it can be, and what was met though document 01 doesn't have it.
+    /// Prints all counts and gives what was not met though it can be, and what was met though the documents don't have it.
     pub fn print(&self) -> Vec<String> {
         let mut wrong = Vec::new();
         for (kind, refusals) in REFUSALS {
@@ -171,6 +200,14 @@ impl Tally {
             print!(" {steps} {from} {count}");
             if count == 0 {
                 wrong.push(format!("no filing was accepted for a day of {steps} steps {from}"));
+            }
+        }
+        println!();
+        print!("accepted filings by form:");
+        for ((what, _), count) in FORMS.iter().zip(self.forms) {
+            print!(" {what} {count};");
+            if count == 0 {
+                wrong.push(format!("no filing was accepted of {what}"));
             }
         }
         println!();

@@ -1,10 +1,15 @@
-//! The proved reader beside the peer's: the same bodies, one run, ns and the ratio. `reading count` only reads, for callgrind.
+//! The proved readers beside the peer's: the same files and objects, one run, ns and the ratio. `reading count` and one of their names
+//! only reads, for callgrind.
+
+mod objects;
 
 use std::hint::black_box;
 use std::time::Instant;
 
 use peer::notification::{read, write, Notification};
 use register::ffi::{self, FileRead};
+
+use objects::{as_in_the_guide, peer_object, proved_object, without_blanks};
 
 #[inline(never)]
 fn proved_reader(name: &[u8], body: &[u8]) -> FileRead {
@@ -16,8 +21,8 @@ fn peer_reader(name: &[u8], body: &[u8]) -> Result<Notification, peer::Refusal> 
     read(name, body)
 }
 
-/// A valid 48-step file with powers of one to three digits.
-fn file(seed: u64) -> (Vec<u8>, Vec<u8>) {
+/// A valid notification of 48 steps with powers of one to three digits.
+fn notification(seed: u64) -> Notification {
     let mut state = seed;
     let mut below = |n: u64| {
         state = state.wrapping_mul(6364136223846793005).wrapping_add(1442695040888963407);
@@ -27,16 +32,19 @@ fn file(seed: u64) -> (Vec<u8>, Vec<u8>) {
     let mut powers = [0i16; 50];
     powers[..48].iter_mut().for_each(|p| *p = level + below(25));
     let day = peer::calendar::day_of(b"20210120").unwrap();
-    let n = Notification {
+    Notification {
         ceder: *b"17X100A100R0000L",
         acquirer: *b"17X100A100R0001J",
         category: *b"13120\0",
         day,
         steps: 48,
         powers,
-    };
+    }
+}
+
+fn file(n: &Notification) -> (Vec<u8>, Vec<u8>) {
     let (mut name, mut body) = ([0; 64], [0; 1024]);
-    let (a, b) = write(&n, &mut name, &mut body).unwrap();
+    let (a, b) = write(n, &mut name, &mut body).unwrap();
     (name[..a].to_vec(), body[..b].to_vec())
 }
 
@@ -75,34 +83,56 @@ fn compare(name: &[u8], body: &[u8]) {
     }
 }
 
-fn nanoseconds(files: &[(Vec<u8>, Vec<u8>)], mut f: impl FnMut(&[u8], &[u8])) -> f64 {
+/// Reads each text once.
+fn each<T, A>(texts: &[T], f: impl Fn(&T) -> A) {
+    for text in texts {
+        let _ = black_box(f(black_box(text)));
+    }
+}
+
+fn nanoseconds<T, A>(texts: &[T], f: impl Fn(&T) -> A) -> f64 {
     let mut best = f64::MAX;
     for _ in 0..2000 {
         let start = Instant::now();
-        for (name, body) in files {
-            f(name, body);
-        }
-        best = best.min(start.elapsed().as_nanos() as f64 / files.len() as f64);
+        each(texts, &f);
+        best = best.min(start.elapsed().as_nanos() as f64 / texts.len() as f64);
     }
     best
 }
 
-fn main() {
-    let files: Vec<_> = (0..64).map(|i| file(i * 7919 + 1)).collect();
-    if std::env::args().nth(1).is_some_and(|a| a == "count") {
-        for (name, body) in &files {
-            black_box(proved_reader(name, body));
-            let _ = black_box(peer_reader(name, body));
+/// Prints the times of both readers, or only reads where the count is of this name.
+fn measure<T, A, B>(name: &str, count: Option<&str>, texts: &[T], ours: impl Fn(&T) -> A, peers: impl Fn(&T) -> B) {
+    match count {
+        None => {
+            let (ours, peers) = (nanoseconds(texts, ours), nanoseconds(texts, peers));
+            println!("{name} proved {ours:.1} ns, peer {peers:.1} ns, ratio {:.2}", ours / peers);
         }
-        return;
+        Some(only) if only == name => {
+            each(texts, ours);
+            each(texts, peers);
+        }
+        Some(_) => {}
     }
-    compare(&files[0].0, &files[0].1);
-    compare(&files[5].0, &files[5].1);
-    let ours = nanoseconds(&files, |n, b| {
-        black_box(proved_reader(black_box(n), black_box(b)));
-    });
-    let peers = nanoseconds(&files, |n, b| {
-        let _ = black_box(peer_reader(black_box(n), black_box(b)));
-    });
-    println!("proved {ours:.1} ns, peer {peers:.1} ns, ratio {:.2}", ours / peers);
+}
+
+fn main() {
+    let words: Vec<String> = std::env::args().skip(1).collect();
+    let count = match &words[..] {
+        [count, name] if count == "count" => Some(&name[..]),
+        _ => None,
+    };
+    let notifications: Vec<_> = (0..64).map(|i| notification(i * 7919 + 1)).collect();
+    let files: Vec<_> = notifications.iter().map(file).collect();
+    let objects: Vec<_> = notifications.iter().map(without_blanks).collect();
+    let laid_out: Vec<_> = notifications.iter().map(as_in_the_guide).collect();
+    if count.is_none() {
+        compare(&files[0].0, &files[0].1);
+        compare(&files[5].0, &files[5].1);
+        objects::compare(&objects[0]);
+        objects::compare(&laid_out[5]);
+    }
+    measure("file", count, &files, |(name, body)| proved_reader(name, body), |(name, body)| peer_reader(name, body));
+    for (name, texts) in [("object", &objects), ("object_laid_out", &laid_out)] {
+        measure(name, count, texts, |body| proved_object(body), |body| peer_object(body));
+    }
 }

@@ -147,6 +147,24 @@ pub struct FileWritten {
     pub body: usize,
 }
 
+/// The object of a request that was read: refusal and notification as of a file, day and second of the submission, and the origin; zeros
+/// beside a refusal.
+#[repr(C)]
+pub struct ObjectRead {
+    pub read: FileRead,
+    pub day: u32,
+    pub second: u32,
+    pub origin: [u8; 16],
+}
+
+/// Number and place of the refusal, 0 and 0 where there is none; then the length of the object.
+#[repr(C)]
+pub struct ObjectWritten {
+    pub number: u32,
+    pub place: u32,
+    pub length: usize,
+}
+
 /// The eight digits of a date.
 #[repr(C)]
 pub struct DateText {
@@ -174,6 +192,9 @@ const _: () = {
     assert!(size_of::<FileRead>() == 156 && offset_of!(FileRead, powers) == 16 && offset_of!(FileRead, ceder) == 116);
     assert!(offset_of!(FileRead, acquirer) == 132 && offset_of!(FileRead, category) == 148);
     assert!(size_of::<FileWritten>() == 8 + 2 * size_of::<usize>() && offset_of!(FileWritten, name) == 8);
+    assert!(size_of::<ObjectRead>() == 180 && offset_of!(ObjectRead, day) == 156);
+    assert!(offset_of!(ObjectRead, second) == 160 && offset_of!(ObjectRead, origin) == 164);
+    assert!(size_of::<ObjectWritten>() == 8 + size_of::<usize>() && offset_of!(ObjectWritten, length) == 8);
     assert!(size_of::<DateText>() == 8);
 };
 
@@ -194,6 +215,11 @@ unsafe extern "C" {
         numbers: &Numbers, approved: &Approved, loads: &LoadRows, submitter: *const u8, submitter_len: usize,
         name: *const u8, name_len: usize, body: *const u8, body_len: usize,
     ) -> Turn;
+    fn register_head_file_object(
+        head: Head, statuses: &mut Statuses, ids: &mut Ids, keys: &mut Keys, marks: &mut Marks, rows: &mut Rows,
+        numbers: &Numbers, approved: &Approved, loads: &LoadRows, submitter: *const u8, submitter_len: usize,
+        body: *const u8, body_len: usize,
+    ) -> Turn;
     pub safe fn register_head_advance(head: Head, day: u32, minute: u32) -> Turn;
     fn register_head_engagement(
         head: Head, statuses: &Statuses, keys: &Keys, marks: &Marks, rows: &Rows, numbers: &Numbers, loads: &LoadRows,
@@ -208,6 +234,8 @@ unsafe extern "C" {
     ) -> Said;
     fn notification_read(name: *const u8, name_len: usize, body: *const u8, body_len: usize) -> FileRead;
     fn notification_write(n: FileRead, name: *mut u8, name_len: usize, body: *mut u8, body_len: usize) -> FileWritten;
+    fn register_object_read(body: *const u8, body_len: usize) -> ObjectRead;
+    fn register_object_write(x: ObjectRead, buffer: *mut u8, buffer_len: usize) -> ObjectWritten;
     fn calendar_day(date: *const u8, date_len: usize) -> u32;
     pub safe fn calendar_date(day: u32) -> DateText;
     pub safe fn calendar_steps(day: u32) -> u32;
@@ -273,6 +301,29 @@ pub fn file(r: &mut State, submitter: &[u8], name: &[u8], body: &[u8]) -> Turn {
 }
 
 #[inline]
+pub fn file_object(r: &mut State, submitter: &[u8], body: &[u8]) -> Turn {
+    // SAFETY: each pointer stands with the length of its own slice; the slices live past the call and are only read. The columns are
+    // borrowed alone.
+    unsafe {
+        register_head_file_object(
+            r.head,
+            &mut r.statuses,
+            &mut r.ids,
+            &mut r.keys,
+            &mut r.marks,
+            &mut r.rows,
+            &r.numbers,
+            &r.approved,
+            &r.loads,
+            submitter.as_ptr(),
+            submitter.len(),
+            body.as_ptr(),
+            body.len(),
+        )
+    }
+}
+
+#[inline]
 pub fn engagement(r: &State, actor: &[u8], category: &[u8], day: u32, step: u32) -> Said {
     // SAFETY: each pointer stands with the length of its own slice; the slices live past the call and are only read.
     unsafe {
@@ -318,6 +369,18 @@ pub fn read(name: &[u8], body: &[u8]) -> FileRead {
 pub fn write(n: FileRead, name: &mut [u8], body: &mut [u8]) -> FileWritten {
     // SAFETY: each pointer stands with the length of its own slice; both live past the call and are borrowed alone.
     unsafe { notification_write(n, name.as_mut_ptr(), name.len(), body.as_mut_ptr(), body.len()) }
+}
+
+#[inline]
+pub fn read_object(body: &[u8]) -> ObjectRead {
+    // SAFETY: the pointer and the length are those of one slice, which lives past the call and is only read.
+    unsafe { register_object_read(body.as_ptr(), body.len()) }
+}
+
+#[inline]
+pub fn write_object(x: ObjectRead, buffer: &mut [u8]) -> ObjectWritten {
+    // SAFETY: the pointer and the length are those of one slice, which lives past the call and is borrowed alone.
+    unsafe { register_object_write(x, buffer.as_mut_ptr(), buffer.len()) }
 }
 
 #[inline]

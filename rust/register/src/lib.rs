@@ -1,7 +1,7 @@
 //! The reserve exchange register for Rust: a safe face over the proved static library `register_c`.
 //!
 //! A [`Register`] holds everything itself, in about 36 KB and without a heap. Each call answers a result or one [`Refusal`] of
-//! document 01, and a refused call changes nothing. What the calls do is proved; this package only passes arguments and answers on.
+//! document 01 or 02, and a refused call changes nothing. What the calls do is proved; this package only passes arguments and answers on.
 //!
 //! Codes, categories, names and bodies are any bytes: the calls judge their form, so `&str`, `&[u8]`, [`Code`] and [`Category`] all
 //! serve.
@@ -54,6 +54,7 @@ mod day;
 #[doc(hidden)] // for the benchmarks, which measure the library's own functions and structs
 pub mod ffi;
 mod notification;
+mod object;
 mod record;
 mod refusal;
 
@@ -61,6 +62,7 @@ use core::fmt;
 
 pub use day::{Day, NoDate};
 pub use notification::{Category, Code, Notification, BODY_LENGTH, NAME_LENGTH, STEPS};
+pub use object::{Moment, Object, OBJECT_LENGTH};
 pub use record::{Filed, Record, Status};
 pub use refusal::Refusal;
 
@@ -205,7 +207,50 @@ impl Register {
     ) -> Result<Filed, Refusal> {
         let (submitter, name, body) = (submitter.as_ref(), name.as_ref(), body.as_ref());
         let turn = ffi::file(&mut self.0, submitter, name, body);
-        let [id, letter, from] = self.keep(&turn)?;
+        self.filed(&turn)
+    }
+
+    /// Files a notification by the machine interface: the submitter's code and the object of a request. It meets the same ledger as a
+    /// [file](Self::file) does. Refused by 42, 5 to 8, 43, then 20 to 36.
+    ///
+    /// ```
+    /// # use register::{Day, Filed, Moment, Notification, Object, Refusal, Register, Status};
+    /// # use register::{BODY_LENGTH, NAME_LENGTH, OBJECT_LENGTH};
+    /// # let (north, south) = ("17X100A100R0000L", "17X100A100R0001J");
+    /// # let today = Day::of("20210120").unwrap();
+    /// # let tomorrow = Day(today.0 + 1);
+    /// # let mut register = Register::new();
+    /// # register.advance(today, 600)?;
+    /// # register.enrol_actor(north, today, tomorrow)?;
+    /// # register.enrol_actor(south, today, tomorrow)?;
+    /// # register.enrol_category("13120")?;
+    /// # register.load(north, "13120", tomorrow, 100, &[60; 48])?;
+    /// # register.load(south, "13120", tomorrow, 100, &[0; 48])?;
+    /// // North files an exchange as a file, and south answers it by an object.
+    /// let exchange = Notification::new(north.parse()?, south.parse()?, "13120".parse()?, tomorrow, &[40; 48]);
+    /// let (mut name, mut body) = ([0; NAME_LENGTH], [0; BODY_LENGTH]);
+    /// let (a, b) = exchange.write(&mut name, &mut body)?;
+    /// assert_eq!(register.file(north, &name[..a], &body[..b])?, Filed { id: 1, status: Status::Created, from: 0 });
+    ///
+    /// let moment = Moment { day: today, second: 36_000 };
+    /// let object = Object { notification: exchange, origin: south.parse()?, moment };
+    /// let mut buffer = [0; OBJECT_LENGTH];
+    /// let length = object.write(&mut buffer)?;
+    /// let object = &buffer[..length];
+    /// assert_eq!(register.file_object(north, object), Err(Refusal { number: 43, place: 0 }));
+    /// assert_eq!(register.file_object(south, object)?, Filed { id: 2, status: Status::Validated, from: 0 });
+    /// assert_eq!(register.engagement(south, "13120", tomorrow, 0)?, 40);
+    /// # Ok::<(), Refusal>(())
+    /// ```
+    pub fn file_object(&mut self, submitter: impl AsRef<[u8]>, body: impl AsRef<[u8]>) -> Result<Filed, Refusal> {
+        let turn = ffi::file_object(&mut self.0, submitter.as_ref(), body.as_ref());
+        self.filed(&turn)
+    }
+
+    /// Keeps the head that a filing leaves, and gives what it says.
+    #[inline]
+    fn filed(&mut self, turn: &ffi::Turn) -> Result<Filed, Refusal> {
+        let [id, letter, from] = self.keep(turn)?;
         Ok(Filed { id, status: Status::known(letter), from })
     }
 

@@ -91,7 +91,7 @@ fn count(length: usize) -> u32 {
     u32::try_from(length).unwrap_or(u32::MAX)
 }
 
-/// What a notification file says: a key and a power in MW for each step of its day.
+/// What a notification says, in either form: a key and a power in MW for each step of its day.
 #[derive(Clone, Copy, Debug, PartialEq, Eq)]
 pub struct Notification {
     /// The actor that gives.
@@ -123,34 +123,42 @@ impl Notification {
 
     /// Reads a file, or refuses it by 1 to 8.
     pub fn read(name: impl AsRef<[u8]>, body: impl AsRef<[u8]>) -> Result<Notification, Refusal> {
-        let read = ffi::read(name.as_ref(), body.as_ref());
-        Refusal::unless_accepted(read.number, read.place)?;
-        Ok(Notification {
-            ceder: Code(read.ceder),
-            acquirer: Code(read.acquirer),
-            category: Category(read.category),
-            day: Day(read.day),
-            steps: read.steps,
-            powers: read.powers,
-        })
+        read_in(ffi::read(name.as_ref(), body.as_ref()))
     }
 
     /// Puts the file's name and body into the two lent buffers and gives their lengths, or refuses by 9, 10, 8 or 36. What the buffers
     /// hold past these lengths, and all of it beside a refusal, is left as it was. [`NAME_LENGTH`] and [`BODY_LENGTH`] are enough.
     pub fn write(&self, name: &mut [u8], body: &mut [u8]) -> Result<(usize, usize), Refusal> {
-        let flat = ffi::FileRead {
-            number: 0,
-            place: 0,
-            day: self.day.0,
-            steps: self.steps,
-            powers: self.powers,
-            ceder: self.ceder.0,
-            acquirer: self.acquirer.0,
-            category: self.category.0,
-        };
-        let written = ffi::write(flat, name, body);
+        let written = ffi::write(flat(self), name, body);
         Refusal::unless_accepted(written.number, written.place)?;
         Ok((written.name, written.body))
+    }
+}
+
+/// The notification that was read, or the refusal.
+pub(crate) fn read_in(read: ffi::FileRead) -> Result<Notification, Refusal> {
+    Refusal::unless_accepted(read.number, read.place)?;
+    Ok(Notification {
+        ceder: Code(read.ceder),
+        acquirer: Code(read.acquirer),
+        category: Category(read.category),
+        day: Day(read.day),
+        steps: read.steps,
+        powers: read.powers,
+    })
+}
+
+/// A notification to write as the library takes it.
+pub(crate) fn flat(n: &Notification) -> ffi::FileRead {
+    ffi::FileRead {
+        number: 0,
+        place: 0,
+        day: n.day.0,
+        steps: n.steps,
+        powers: n.powers,
+        ceder: n.ceder.0,
+        acquirer: n.acquirer.0,
+        category: n.category.0,
     }
 }
 

@@ -1,9 +1,9 @@
-//! Refusals, in the words of document 01's two tables and, for 39, of document 02 as well.
+//! Refusals, in the words of document 01's two tables and, for 39, 42, 43 and the object of a request, of document 02 as well.
 
 use core::error::Error;
 use core::fmt;
 
-/// Why a call was refused: a number of document 01 and a place. A refused call has changed nothing.
+/// Why a call was refused: a number of document 01 or 02 and a place. A refused call has changed nothing.
 ///
 /// ```
 /// use register::Refusal;
@@ -13,9 +13,9 @@ use core::fmt;
 /// ```
 #[derive(Clone, Copy, Debug, PartialEq, Eq, Hash)]
 pub struct Refusal {
-    /// 1 to 10 come from the input, 20 to 41 from the state.
+    /// 1 to 10 come from the input, 20 to 41 from the state; 42 and 43 are of the object of a request.
     pub number: u32,
-    /// The line of a file (3, 4, 6, 7; the header is 1) or the step (32 to 35); 0 for all others.
+    /// The line of a file (3, 4, 6, 7; the header is 1), the step of an object, from 1 (6, 7), or the step (32 to 35); 0 for all others.
     pub place: u32,
 }
 
@@ -27,9 +27,12 @@ impl Refusal {
             2 => "the body is empty, too long, or doesn't end with LF",
             3 => "line 1 isn't a header",
             4 => "header and name differ",
-            5 => "the lines after the header aren't as many as the day's steps",
-            6 => "the line doesn't begin with its step's two labels, each with its ';'",
-            7 => "the rest of the line isn't a power and ';'",
+            5 => "the lines after the header, or the steps of the object, aren't as many as the day's steps",
+            6 => {
+                "the line doesn't begin with its step's two labels, each with its ';', \
+                 or the object's step hasn't these labels"
+            }
+            7 => "the rest of the line isn't a power and ';', or the object's step hasn't a power",
             8 => "every power is 0",
             9 => "a code or category to enrol or to write has a wrong form",
             10 => {
@@ -60,7 +63,12 @@ impl Refusal {
             39 => "the load's day isn't after the clock's, or its first counted step isn't 0",
             40 => "there is no record of that id",
             41 => "the asker isn't a party to the record",
-            _ => "a number that document 01 doesn't have",
+            42 => {
+                "the text is over 8,192 bytes, or isn't the object of a request, \
+                 apart from step count, labels and powers"
+            }
+            43 => "the origin member isn't the submitter",
+            _ => "a number that the documents don't have",
         }
     }
 }
@@ -69,7 +77,8 @@ impl fmt::Display for Refusal {
     fn fmt(&self, f: &mut fmt::Formatter<'_>) -> fmt::Result {
         write!(f, "refusal {}", self.number)?;
         match self.number {
-            3 | 4 | 6 | 7 => write!(f, " at line {}", self.place)?,
+            3 | 4 => write!(f, " at line {}", self.place)?,
+            6 | 7 => write!(f, " at line or step {}", self.place)?,
             32..=35 => write!(f, " at step {}", self.place)?,
             _ => {}
         }

@@ -1,10 +1,13 @@
 //! Filings of a list: new ones, and what may follow an earlier one.
 
 use peer::calendar::day_of;
+use peer::object::Moment;
 
 use super::{Filing, Scene};
 use crate::calls::Call;
-use crate::notes::{date, steps_of, Note};
+use crate::layouts::{laid_out, tokens_in};
+use crate::notes::{code, date, steps_of, Note};
+use crate::requests::Request;
 
 impl Scene<'_> {
     /// Powers of a filing: one level, two levels, steps that may count no longer, or anything.
@@ -45,8 +48,13 @@ impl Scene<'_> {
     }
 
     pub(super) fn file(&mut self, note: &Note, by: &[u8]) {
-        let (name, body) = note.file();
-        self.calls.push(Call::File { submitter: by.to_vec(), name, body });
+        let call = if self.random.one_in(3) {
+            self.object(note, by)
+        } else {
+            let (name, body) = note.file();
+            Call::File { submitter: by.to_vec(), name, body }
+        };
+        self.calls.push(call);
         // Only what may be accepted is worth an answer.
         let parties = [&note.ceder, &note.acquirer];
         let known = parties.iter().all(|party| self.codes.contains(party)) && self.categories.contains(&note.category);
@@ -54,6 +62,22 @@ impl Scene<'_> {
         if known && note.ceder != note.acquirer && (self.day..=self.day + 7).contains(&day) {
             self.filings.push(Filing { note: note.clone(), by: by.to_vec() });
         }
+    }
+
+    /// The filing of an object, nearly always with its submitter as the origin.
+    fn object(&mut self, note: &Note, by: &[u8]) -> Call {
+        let origin = match self.random.below(60) {
+            0 => self.third(by, by),
+            1 => self.actor(),
+            _ => by.to_vec(),
+        };
+        let text = self.request(note, origin).text(self.random);
+        Call::FileObject { submitter: by.to_vec(), body: laid_out(self.random, &tokens_in(&text)) }
+    }
+
+    pub(super) fn request(&mut self, note: &Note, origin: Vec<u8>) -> Request {
+        let second = *self.random.pick(&[0, 1, 59, 60, 3599, 3600, 36_000, 86_399]);
+        Request { note: note.clone(), origin, moment: Moment { day: self.day, second } }
     }
 
     pub(super) fn file_by_both(&mut self, note: &Note) {
@@ -82,7 +106,8 @@ impl Scene<'_> {
         let by = match self.random.below(60) {
             0 => self.actor(),
             1 => self.any_text(16),
-            2..31 => note.ceder.clone(),
+            2 => code(self.codes.len()),
+            3..31 => note.ceder.clone(),
             _ => note.acquirer.clone(),
         };
         self.file(&note, &by);

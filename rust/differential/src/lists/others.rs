@@ -2,18 +2,19 @@
 
 use super::Scene;
 use crate::calls::Call;
-use crate::damage::damaged;
+use crate::damage::{damaged, damaged_object};
 use crate::notes::{code, steps_of};
 
 impl Scene<'_> {
     pub(super) fn any_call(&mut self) {
         match self.random.below(100) {
-            0..62 => self.filing(),
-            62..72 => self.any_advance(),
-            72..76 => self.damaged(),
-            76..80 => self.any_load(),
-            80..82 => self.enrolment(),
-            82..94 => self.question(),
+            0..58 => self.filing(),
+            58..67 => self.any_advance(),
+            67..71 => self.damaged(),
+            71..77 => self.damaged_object(),
+            77..81 => self.any_load(),
+            81..83 => self.enrolment(),
+            83..94 => self.question(),
             _ => self.wild(),
         }
     }
@@ -77,7 +78,7 @@ impl Scene<'_> {
 
     /// Arguments that no form holds.
     pub(super) fn wild(&mut self) {
-        let call = match self.random.below(7) {
+        let call = match self.random.below(8) {
             0 => Call::EnrolActor { code: self.any_text(16), first: self.random.wild(), last: self.random.wild() },
             1 => Call::EnrolCategory { text: self.any_text(5) },
             2 => {
@@ -99,6 +100,15 @@ impl Scene<'_> {
                 Call::Engagement { actor: self.actor(), category: self.category(), day, step }
             }
             5 => Call::Record { asker: self.actor(), id: self.random.wild() },
+            6 => {
+                let length = self.random.below(1200);
+                let marks = self.random.one_in(2).then_some(b"{}[]:,\"C0 ");
+                let body = match marks {
+                    Some(marks) => (0..length).map(|_| *self.random.pick(marks)).collect(),
+                    None => self.random.bytes(length),
+                };
+                Call::FileObject { submitter: self.any_text(16), body }
+            }
             _ => Call::History { actor: self.any_text(16), length: self.random.below(300) },
         };
         self.calls.push(call);
@@ -109,5 +119,18 @@ impl Scene<'_> {
         let (name, body) = damaged(self.random, note);
         let submitter = self.actor();
         self.calls.push(Call::File { submitter, name, body });
+    }
+
+    /// An object with mistakes; its origin is its submitter, or isn't, or has another form.
+    pub(super) fn damaged_object(&mut self) {
+        let (note, submitter) = (self.note(), self.actor());
+        let origin = match self.random.below(8) {
+            0 | 1 => self.actor(),
+            2 => self.any_text(16),
+            _ => submitter.clone(),
+        };
+        let request = self.request(&note, origin);
+        let body = damaged_object(self.random, request);
+        self.calls.push(Call::FileObject { submitter, body });
     }
 }
