@@ -1,5 +1,5 @@
-// The label of a boundary between steps as an object has it: "Labels are `hhhmm`, the last end is `00h00`, long days use
-// `_BIS`".
+// The label of a boundary between steps as an object has it: "Labels are `hhhmm`, the last end is `00h00`, long days
+// use `_BIS`".
 ghost use mathlib.Core.Bool.{cond};
 ghost use mathlib.Core.Path.{_≡_};
 ghost use Prim.Native.Nat.{_≤_};

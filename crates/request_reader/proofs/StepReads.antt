@@ -197,9 +197,6 @@ module _ (from until s : List ℕ) (at inner first next second last third end : 
   abbrev ts : List (List ℕ)
   ts = tokens (drop at s)
 
-  abbrev labels : List ℕ → List (List ℕ → Bool)
-  labels name = is (58 ∷ []) ∷ quotedBy (every isLabelByte) ∷ []
-
   abbrev t1 : List (List ℕ → Bool)
   t1 = is (123 ∷ []) ∷ []
 

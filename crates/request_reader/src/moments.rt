@@ -1,4 +1,5 @@
-// A moment by its twenty bytes: "`YYYY-MM-DDTHH:mm:ssZ` with a date of document 01 and a time from 00:00:00 to 23:59:59".
+// A moment by its twenty bytes: "`YYYY-MM-DDTHH:mm:ssZ` with a date of document 01 and a time from 00:00:00 to
+// 23:59:59".
 ghost use mathlib.Core.Bool.{true};
 ghost use mathlib.Core.Path.{_≡_};
 ghost use lib.ListN.{length};

@@ -1,5 +1,5 @@
-// The reader (document 02, K3): "42 when the text is over that, or isn't such an object apart from step count, labels and
-// powers, in the place of 1 to 4, with 5 to 8 following".
+// The reader (document 02, K3): "42 when the text is over that, or isn't such an object apart from step count, labels
+// and powers, in the place of 1 to 4, with 5 to 8 following".
 ghost use mathlib.Core.Path.{_≡_};
 ghost use lib.ListN.{drop};
 ghost use Rattle.refusals.specs.Tests.{decide};

@@ -1,5 +1,5 @@
-// The tokens of an object, one after another: each function is told a place and gives the place after what it looks for,
-// or one past the end of every body.
+// The tokens of an object, one after another: each function is told a place and gives the place after what it looks
+// for, or one past the end of every body.
 ghost use mathlib.Core.Bool.{true};
 ghost use mathlib.Core.Path.{_≡_};
 ghost use mathlib.Core.List.{[], _∷_};
