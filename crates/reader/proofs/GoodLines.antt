@@ -52,7 +52,7 @@ six-label s i steps at l h g k m =
     u ∙ ap (λ (r : List ℕ). r ++ drop (i + 6) s) t
 
 -- a sum is 0 where both parts are
-sum-zero : (s v : ℕ) → (not (eqb s 0) || not (eqb v 0)) ≡ not (eqb (s + v) 0)
+pub sum-zero : (s v : ℕ) → (not (eqb s 0) || not (eqb v 0)) ≡ not (eqb (s + v) 0)
 sum-zero s v = or-zero false (eqb s 0) (eqb v 0) ∙ ap not (sym both)
   where
     both : eqb (s + v) 0 ≡ (eqb s 0 && eqb v 0)

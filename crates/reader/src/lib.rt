@@ -2,7 +2,7 @@
 pub mod header;
 mod keys;
 mod lines;
-mod marks;
+pub mod marks;
 pub mod power;
 pub mod reading;
 mod steps;

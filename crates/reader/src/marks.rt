@@ -14,7 +14,7 @@ use lists::bytes::byte_at;
 use lists::numbers::byte;
 
 // The half hours since midnight that a boundary is labelled with.
-pub(crate) fn half_hours(steps: u32, at: u32) -> u32
+pub fn half_hours(steps: u32, at: u32) -> u32
     requires { ⌜ (at ≤ steps) × (steps ≤ places) ⌝ }
     ensures { λ r. ⌜ (r ≡ halfHours steps at) × (r < 49) ⌝ }
 {
@@ -26,7 +26,7 @@ pub(crate) fn half_hours(steps: u32, at: u32) -> u32
 }
 
 // The boundary up to which the labels from a boundary on go on by half hours; 0 where they don't.
-pub(crate) fn run_end(steps: u32, k: u32) -> u32
+pub fn run_end(steps: u32, k: u32) -> u32
     requires { ⌜ (k ≤ steps) × (steps ≤ places) ⌝ }
     ensures { λ r. ⌜ (k < r → Plain steps k r) ⌝ }
 {
@@ -48,7 +48,7 @@ pub(crate) fn run_end(steps: u32, k: u32) -> u32
 }
 
 // Four bytes as a number.
-fn four(s: &[u8], a: usize) -> u64
+pub fn four(s: &[u8], a: usize) -> u64
     requires { ⌜ a + 4 ≤ length (now s) ⌝ }
     ensures { λ r. ⌜ r ≡ getD (now (s .entry)) a 0 + 256 * (getD (now (s .entry)) (a + 1) 0
         + 256 * (getD (now (s .entry)) (a + 2) 0 + 256 * getD (now (s .entry)) (a + 3) 0)) ⌝ }

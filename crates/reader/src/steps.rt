@@ -1,9 +1,7 @@
 // The lines of a day's steps: what each says, and the fold over them.
-ghost use mathlib.Core.Bool.{not};
 ghost use mathlib.Core.Path.{_≡_};
 ghost use mathlib.Core.List.{[], _∷_, _++_};
 ghost use Prim.Native.Nat.{_+_, _-_, _<_, _≤_};
-ghost use lib.Dec.{eqb};
 ghost use lib.ListN.{length, drop, take};
 ghost use Rattle.notification.specs.Forms.{places};
 ghost use Rattle.reader.specs.Walking.{startsWith, linePower, wholeTo};
@@ -19,6 +17,7 @@ use crate::tally::Tally;
 use crate::tally::count;
 use crate::tally::is_over;
 use crate::tally::note;
+use crate::tally::one_if;
 use calendar::labels_of;
 use lists::bytes::byte_from;
 
@@ -85,13 +84,6 @@ fn take_step(t: Tally, steps: u32, line: &[u8], powers: &mut [u16; 50]) -> Tally
     }
     let said = line_power(steps, t.lines, line);
     note(t, FIRST_LINE, said, powers)
-}
-
-// 1 where a power wasn't 0 before, so that the sum of the powers after it isn't 0 either.
-fn one_if(any: bool) -> u32
-    ensures { λ r. ⌜ (not (eqb r 0) ≡ any) × (r ≤ 1) ⌝ }
-{
-    if any { 1 } else { 0 }
 }
 
 // Lines that were taken, and where the next one begins.

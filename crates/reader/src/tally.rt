@@ -1,7 +1,9 @@
 // What is kept while a day's steps are told one after another, in lines or otherwise: their number, the first fault,
 // the powers.
+ghost use mathlib.Core.Bool.{not};
 ghost use mathlib.Core.Path.{_≡_};
 ghost use Prim.Native.Nat.{_+_, _<_, _≤_, min};
+ghost use lib.Dec.{eqb};
 ghost use Rattle.notification.specs.Forms.{places};
 ghost use Rattle.reader.specs.Folding.{isPass, counted, faulted, credited, isOver, judged};
 use refusals::InputRefusal;
@@ -103,4 +105,11 @@ pub fn note(t: Tally, first: u32, said: LinePower, powers: &mut [u16; 50]) -> Ta
         LinePower::NoLabels => fault(t, Refusal::Input(InputRefusal::Labels, k + first)),
         LinePower::NoPower => fault(t, Refusal::Input(InputRefusal::Power, k + first)),
     }
+}
+
+// 1 where a power wasn't 0 before, so that the sum of the powers after it isn't 0 either.
+pub fn one_if(any: bool) -> u32
+    ensures { λ r. ⌜ (not (eqb r 0) ≡ any) × (r ≤ 1) ⌝ }
+{
+    if any { 1 } else { 0 }
 }

@@ -10,13 +10,16 @@ use lib.Seq.{getD-drop}
 use borrow.Author.Tests.{ltb-true, ltb-false, le-leb, leb-true, eqb-true, eq-eqb}
 use Rattle.lists.specs.Searches.{every}
 use Rattle.lists.proofs.Tests.{by-test, true-false, and-left}
-use Rattle.request.specs.Tokens.{inside, tokens, is, quotedBy}
+use Rattle.notification.specs.Forms.{isCode, isCategory, sixBytes}
+use Rattle.request.specs.Tokens.{quoted, inside, tokens, is, quotedBy}
+use Rattle.request.specs.Objects.{cederName, acquirerName, originName, categoryName, dayName, submittedName}
+use Rattle.request.specs.Objects.{statusName, created, seriesName}
 use Rattle.request.specs.Moments.{momentIn, isMomentText, isDayText}
 use Rattle.request.specs.declared.Moment.{Moment}
 use Rattle.request.proofs.MomentTexts.{in-range, moment-back}
 use Rattle.request.proofs.Unquoted.{moment-text-unquoted}
 use Rattle.request_reader.specs.Walking.{starts, Walked, Membered, isPlain, firstToken, memberTests}
-use Rattle.request_reader.specs.Heads.{isTimely}
+use Rattle.request_reader.specs.Heads.{isTimely, PartiesAt, TermsAt, beginTests}
 use Rattle.request_reader.proofs.Walks.{nowhere, walked-on}
 use Rattle.request.proofs.Fits.{quoted-back}
 
@@ -97,3 +100,55 @@ module _ (latest : ℕ) where
       by-test good
       (λ t. rw (← e, t, f t))
       (λ t. rw (← e, t))
+
+-- ---- three members, one after another
+
+-- `{` and the three codes
+pub parties-joined : (s : List ℕ) (a b c d : ℕ) (ceder acquirer origin : List ℕ) → Walked (is (123 ∷ []) ∷ []) s 0 a
+    → Membered (quoted cederName) isCode (λ t. t) s a b ceder → Membered (quoted acquirerName) isCode (λ t. t) s b c acquirer
+    → Membered (quoted originName) isCode (λ t. t) s c d origin → PartiesAt s d ceder acquirer origin
+parties-joined s a b c d ceder acquirer origin w1 m1 m2 m3 =
+    let p1 : List (List ℕ → Bool) = is (123 ∷ []) ∷ [] in
+    let p2 : List (List ℕ → Bool) = is (123 ∷ []) ∷ memberTests (quoted cederName) (quotedBy isCode) in
+    let p3 : List (List ℕ → Bool) =
+    is (123 ∷ []) ∷ (memberTests (quoted cederName) (quotedBy isCode) ++ memberTests (quoted acquirerName) (quotedBy isCode)) in
+    let w2 = then-walked p1 (quoted cederName) isCode (λ t. t) s 0 a b ceder w1 m1 in
+    let w3 = then-walked p2 (quoted acquirerName) isCode (λ t. t) s 0 b c acquirer w2 m2 in
+    let in2 = then-within p2 (quoted acquirerName) isCode (λ t. t) s 0 b c acquirer w2 m2 in
+    let in3 = then-within p3 (quoted originName) isCode (λ t. t) s 0 c d origin w3 m3 in
+    record {
+      walked = then-walked p3 (quoted originName) isCode (λ t. t) s 0 c d origin w3 m3;
+      its-ceder = λ h. then-value p1 (quoted cederName) isCode (λ t. t) s 0 a b ceder w1 m1 (in2 (in3 h));
+      its-acquirer = λ h. then-value p2 (quoted acquirerName) isCode (λ t. t) s 0 b c acquirer w2 m2 (in3 h);
+      its-origin = λ h. then-value p3 (quoted originName) isCode (λ t. t) s 0 c d origin w3 m3 h;
+    }
+
+-- the category and the two dates
+pub terms-joined : (s : List ℕ) (at b c d : ℕ) (category : List ℕ) (day submitted : Moment)
+    → Membered (quoted categoryName) isCategory sixBytes s at b category → Membered (quoted dayName) isDayText momentIn s b c day
+    → Membered (quoted submittedName) isMomentText momentIn s c d submitted → TermsAt s at d category day submitted
+terms-joined s at b c d category day submitted m1 m2 m3 =
+    let p1 : List (List ℕ → Bool) = memberTests (quoted categoryName) (quotedBy isCategory) in
+    let p2 : List (List ℕ → Bool) =
+    memberTests (quoted categoryName) (quotedBy isCategory) ++ memberTests (quoted dayName) (quotedBy isDayText) in
+    let w1 = m1 .walked in
+    let w2 = then-walked p1 (quoted dayName) isDayText momentIn s at b c day w1 m2 in
+    let in2 = then-within p1 (quoted dayName) isDayText momentIn s at b c day w1 m2 in
+    let in3 = then-within p2 (quoted submittedName) isMomentText momentIn s at c d submitted w2 m3 in
+    record {
+      walked = then-walked p2 (quoted submittedName) isMomentText momentIn s at c d submitted w2 m3;
+      its-category = λ h. m1 .its-value (in2 (in3 h));
+      its-day = λ h. then-value p1 (quoted dayName) isDayText momentIn s at b c day w1 m2 (in3 h);
+      its-moment = λ h. then-value p2 (quoted submittedName) isMomentText momentIn s at c d submitted w2 m3 h;
+    }
+
+-- the status and the beginning of the steps, token by token
+pub begin-joined : (s : List ℕ) (at a b c d e f g : ℕ) → Walked (is (quoted statusName) ∷ []) s at a → Walked (is (58 ∷ []) ∷ []) s a b
+    → Walked (is (quoted created) ∷ []) s b c → Walked (is (44 ∷ []) ∷ []) s c d → Walked (is (quoted seriesName) ∷ []) s d e
+    → Walked (is (58 ∷ []) ∷ []) s e f → Walked (is (91 ∷ []) ∷ []) s f g → Walked beginTests s at g
+begin-joined s at a b c d e f g w1 w2 w3 w4 w5 w6 w7 =
+    first at a w1 (first a b w2 (first b c w3 (first c d w4 (first d e w5 (first e f w6 w7)))))
+  where
+    first : {p q : List ℕ → Bool} {qs : List (List ℕ → Bool)} (i j : ℕ) → Walked (p ∷ []) s i j → Walked (q ∷ qs) s j g
+        → Walked (p ∷ q ∷ qs) s i g
+    first {p} {q} {qs} i j v w = walked-on (p ∷ []) q qs s i j g v w

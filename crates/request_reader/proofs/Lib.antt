@@ -1,12 +1,22 @@
 -- What is true of a walk through an object.
 pub mod Fronts
 pub mod Walks
+pub mod ByteNumbers
 pub mod Values
 pub mod ValueForms
 pub mod MomentReads
 pub mod Heads
-pub mod Runs
+pub mod PlainMembers
+pub mod Passing
+pub mod ByteRuns
+pub mod DigitRuns
 pub mod StepReads
 pub mod StepSeries
+pub mod StepRuns
+pub mod LabelLists
+pub mod LaidFronts
+pub mod PlainFronts
+pub mod RunLoops
+pub mod RunStarts
 pub mod SeriesReads
 pub mod ObjectReads

@@ -1,31 +1,34 @@
--- The reader's walk along the steps: what is left of the series from a place on, and what is kept so far, say together what the whole series
--- says from its beginning on.
+-- The reader's walk along the steps: what is kept after a step's power and the tokens from there on say together what the whole series says
+-- from its beginning on.
 use mathlib.Core.Path.{_≡_, refl, sym, ap, _∙_}
 use mathlib.Core.Bool.{Bool, true, false, not, _&&_}
-use mathlib.Core.List.{List, [], _∷_}
+use mathlib.Core.List.{List, [], _∷_, _++_}
 use Prim.Native.Nat.{ℕ, suc, _+_, _-_, _<_, _≤_, min}
-use native.Mathlib.Numerals.{add-one}
 use native.Mathlib.Omega.{arith}
 use lib.Dec.{leb, ltb, eqb}
-use lib.ListN.{length, getD, drop, length-drop, drop-of-length-le}
-use lib.Seq.{drop-cons}
+use lib.ListN.{length, getD, drop, length-drop, drop-of-length-le, take-append-drop}
+use lib.Seq.{drop-cons, drop-drop}
 use borrow.Author.Tests.{ltb-true, ltb-false, leb-true, leb-false}
 use Rattle.lists.specs.Searches.{same}
 use Rattle.lists.proofs.Tests.{by-test, true-false, or-right}
 use Rattle.notification.specs.Forms.{isDigit}
 use Rattle.reader.specs.declared.tally.LinePower.{LinePower}
 use Rattle.reader.specs.declared.tally.Tally.{Tally}
-use Rattle.reader.specs.Folding.{Taken, isPass, isOver, counted, judged, stepTaken, takeAll}
+use Rattle.reader.specs.Folding.{Taken, isPass, isOver, counted, judged, stepTaken, takeAll, noSteps}
 use Rattle.request.specs.Tokens.{isBlank, quote, onto, tokensFrom, tokens, fits, is}
 use Rattle.request.specs.Objects.{Step}
 use Rattle.request.specs.Writing.{objectMost, hourLabel}
 use Rattle.request.specs.Reading.{stepsIn}
-use Rattle.request_reader.specs.Walking.{Past, Walked, isMark}
-use Rattle.request_reader.specs.Steps.{stepIn, saidAt, StepAt}
-use Rattle.request_reader.specs.Series.{closing, countOf, isSeries, firstStep, tellAll, NextStep, SeriesAt}
-use Rattle.request_reader.proofs.Fronts.{tokens-mark}
+use Rattle.request_reader.specs.declared.step.Layout.{Layout}
+use Rattle.request_reader.specs.Walking.{part, Past, Walked, Passed, firstToken, isMark}
+use Rattle.request_reader.specs.Steps.{stepIn, saidAt, StepAt, beforeFrom, LaidOut}
+use Rattle.request_reader.specs.Series.{closing, countOf, isSeries, firstStep, tellAll, isRest, stepsRest, betweenSteps}
+use Rattle.request_reader.specs.Series.{Told, Onward, NextStep, SeriesAt}
 use Rattle.request_reader.proofs.Walks.{starts-one, nowhere, walked-on, mark-found, mark-lost, mark-inside}
-use Rattle.request_reader.proofs.StepSeries.{fits-append, atLeast, stepsLeft, no-step, after-comma, left-comma, after-last, left-last, begins-step, left-step, begins-end, left-end}
+use Rattle.request_reader.proofs.Heads.{walked-within}
+use Rattle.request_reader.proofs.Passing.{passed-on, mark-passed}
+use Rattle.request_reader.proofs.StepSeries.{fits-append, no-rest, no-front, no-first, no-end, last-rest, begins-end, left-end}
+use Rattle.request_reader.proofs.StepRuns.{step-told, step-onward}
 
 -- ---- a byte by itself, as the first token
 
@@ -41,11 +44,6 @@ module _ (s : List ℕ) (at from b : ℕ) (p : Past s at from) (m : isMark b ≡
 
   pub mark-other : (getD s from 0 ≡ b → ⊥) → is (b ∷ []) (getD (tokens (drop at s)) 0 []) ≡ false
   mark-other f = sym (starts-one (is (b ∷ [])) (tokens (drop at s)) (is-none b)) ∙ mark-lost s at from b p m f few .lost (omega arith)
-
-  pub mark-rest : getD s from 0 ≡ b → tokens (drop at s) ≡ (b ∷ []) ∷ tokens (drop (from + 1) s)
-  mark-rest e =
-      let h = mark-inside s at from b p m e in
-      sym (p .same-tokens) ∙ rw (drop-cons s from 0 h, e, add-one from) (tokens-mark b (drop (suc from) s) m)
 
 -- ---- nothing after what closes the object
 
@@ -115,87 +113,136 @@ next-told steps k k' from until s at next x y said e e' f u w r =
           w .its-said h ∙ rw (f, u, a, b));
     }
 
--- ---- the walk
+-- ---- the first step, and the next one
 
-module _ (steps : ℕ) (s : List ℕ) (few : length s ≤ objectMost) (from : ℕ) (x₀ : Taken) where
-  abbrev us : List (List ℕ)
-  us = tokens (drop from s)
+-- the tokens from a place on are those that stand before another and those from there on
+passed-tokens : (ts : List (List ℕ)) (s : List ℕ) (at next : ℕ) → Passed ts s at next → tokens (drop at s) ≡ ts ++ tokens (drop next s)
+passed-tokens ts s at next p =
+    let h = p .on in
+    let e : at + (next - at) ≡ next = omega arith in
+    let d : drop (next - at) (drop at s) ≡ drop next s = drop-drop (next - at) at s ∙ ap (λ (n : ℕ). drop n s) e in
+    ap tokens (sym (take-append-drop (next - at) (drop at s)) ∙ ap (λ (r : List ℕ). part at (next - at) s ++ r) d) ∙ p .lays (drop next s)
 
-  abbrev pub Left : ℕ → Taken → Type 0
-  Left at x = (isSeries us ≡ atLeast (tokens (drop at s))) × (isSeries us ≡ true → tellAll steps x₀ (stepsIn (countOf us) us) ≡ tellAll steps x (stepsLeft (tokens (drop at s))))
+module _ (steps : ℕ) (s : List ℕ) (at next : ℕ) (x y : Taken) (n : NextStep steps s at next x y) where
+  abbrev vs : List (List ℕ)
+  vs = tokens (drop at s)
 
-  module _ (first : ℕ) (p : Past s from first) where
-    pub no-steps : (good : Bool) → getD s first 0 ≡ 93 → good ≡ fits closing (tokens (drop first s)) → SeriesAt steps s from x₀ good x₀
-    unfolding isMark takeAll
-    no-steps good e g =
-        let c : good ≡ fits closing us = g ∙ ap (fits closing) (p .same-tokens) in
-        let t = mark-first s from first 93 p refl few e in
-        record {
-          its-form = c ∙ sym (begins-end us t);
-          its-steps = λ q. sym (ap (λ (ss : List (Step (List ℕ))). tellAll steps x₀ ss) (left-end us (sym c ∙ q)));
-        }
+  none-after : length s < next → isRest (tokens (drop next s)) ≡ false
+  none-after h = ap isRest (nowhere s next h) ∙ no-rest
 
-    pub some-step : (getD s first 0 ≡ 93 → ⊥) → Left first x₀
-    unfolding isMark
-    some-step f =
-        let t = mark-other s from first 93 p refl few f in
-        let b = begins-step us t in
-        rw (p .same-tokens) (b, λ q. ap (λ (ss : List (Step (List ℕ))). tellAll steps x₀ ss) (left-step us (sym b ∙ q)))
+  step-first : is (93 ∷ []) (firstToken s at) ≡ false → Told steps s at x next y
+  step-first f =
+      by-test (ltb (length s) next)
+      (λ t. let h = ltb-true (length s) next t in
+      let z = no-first vs (n .walked .lost h) f in
+      record { its-form = z ∙ sym (none-after h); its-steps = λ q. true-false (isSeries vs) q z })
+      (λ t. let h = ltb-false (length s) next t in
+      let w = n .walked .found h in
+      step-told steps s at next x y vs (w .0) (w .1) (n .its-tally h) refl)
 
-  module _ (at next mark : ℕ) (x y : Taken) (l : Left at x) (n : NextStep steps s at next x y) (p : Past s next mark) where
-    abbrev vs : List (List ℕ)
-    vs = tokens (drop at s)
-
-    pub last-step : (good : Bool) → (getD s mark 0 ≡ 44 → ⊥) → good ≡ fits closing (tokens (drop mark s)) → SeriesAt steps s from x₀ good y
-    unfolding isMark takeAll
-    last-step good f g =
+  module _ (lead : ℕ) (p : Passed betweenSteps s lead at) where
+    pub next-onward : Onward steps s lead x next y
+    next-onward =
+        let e = passed-tokens betweenSteps s lead at p in
         by-test (ltb (length s) next)
         (λ t. let h = ltb-true (length s) next t in
-        let a : isSeries us ≡ false = l .0 ∙ no-step vs (n .walked .lost h) in
-        let b : good ≡ false = g ∙ (ap (fits closing) (p .same-tokens ∙ nowhere s next h) ∙ none-closed) in
-        record { its-form = b ∙ sym a; its-steps = λ q. true-false good q b })
+        let z = ap isRest e ∙ no-front vs (n .walked .lost h) in
+        record {
+          its-form = z ∙ sym (none-after h);
+          its-steps = λ q. true-false (isRest (tokens (drop lead s))) q z;
+          fewer = omega (arith, ap length (nowhere s next h));
+        })
         (λ t. let h = ltb-false (length s) next t in
         let w = n .walked .found h in
-        let d : tokens (drop mark s) ≡ drop 13 vs = p .same-tokens ∙ w .1 in
-        let o : is (44 ∷ []) (getD (drop 13 vs) 0 []) ≡ false = rw (← w .1) (mark-other s next mark 44 p refl few f) in
-        let c : good ≡ fits closing (drop 13 vs) = g ∙ ap (fits closing) d in
-        let i = c ∙ (sym (after-last vs (w .0) o) ∙ sym (l .0)) in
+        step-onward steps s lead next x y vs (w .0) (w .1) (n .its-tally h) e)
+
+    pub next-fewer : length (tokens (drop next s)) < length (tokens (drop lead s))
+    next-fewer =
+        let e = ap length (passed-tokens betweenSteps s lead at p) in
+        by-test (ltb (length s) next)
+        (λ t. omega (arith, e, ap length (nowhere s next (ltb-true (length s) next t))))
+        (λ t. omega (arith, e, ap length (n .walked .found (ltb-false (length s) next t) .1), length-drop 12 vs))
+
+pub first-told : (steps : ℕ) (s : List ℕ) (at next : ℕ) (ps qs : List ℕ) (y : Taken) → qs ≡ ps
+    → NextStep steps s at next (record { tally = noSteps; powers = qs }) y → is (93 ∷ []) (firstToken s at) ≡ false
+    → Told steps s at (record { tally = noSteps; powers = ps }) next y
+first-told steps s at next ps qs y e n f = rw e at (step-first steps s at next (record { tally = noSteps; powers = qs }) y n f)
+
+-- a step that is laid out so after `}` and a comma is laid out so from there on
+pub laid-before : (s : List ℕ) (lead at : ℕ) (l : Layout) → Passed betweenSteps s lead at → LaidOut beforeFrom s at l
+    → LaidOut (betweenSteps ++ beforeFrom) s lead l
+laid-before s lead at l p o =
+    record {
+      to-from = passed-on betweenSteps beforeFrom s lead at (l .first) p (o .to-from);
+      from-label = o .from-label;
+      to-until = o .to-until;
+      until-label = o .until-label;
+      to-power = o .to-power;
+    }
+
+-- ---- the walk
+
+module _ (s : List ℕ) (at end mark : ℕ) (p : Past s end mark) where
+  pub between-passed :
+      (end ≤ length s → Passed ((125 ∷ []) ∷ []) s at end) → (end ≤ length s → Passed [] s end mark) → getD s mark 0 ≡ 44
+      → Passed betweenSteps s at (mark + 1)
+  unfolding isMark
+  between-passed u v e =
+      let h = mark-inside s end mark 44 p refl e in
+      let w = walked-within (is (44 ∷ [])) [] s end (mark + 1) (mark-found s end mark 44 p refl e) (omega arith) in
+      passed-on ((125 ∷ []) ∷ []) ((44 ∷ []) ∷ []) s at end (mark + 1) (u w) (mark-passed s end mark p v 44 refl e)
+
+  module _ (few : length s ≤ objectMost) (good : Bool) (w : Walked (is (125 ∷ []) ∷ []) s at end) (f : getD s mark 0 ≡ 44 → ⊥)
+      (g : good ≡ fits closing (tokens (drop mark s))) where
+    abbrev ts : List (List ℕ)
+    ts = tokens (drop at s)
+
+    -- the step is the last one
+    rest-closed : (good ≡ isRest ts) × (isRest ts ≡ true → stepsRest ts ≡ [])
+    unfolding isMark
+    rest-closed =
+        by-test (ltb (length s) end)
+        (λ t. let h = ltb-true (length s) end t in
+        let a : isRest ts ≡ false = no-end ts (w .lost h) in
+        let b : good ≡ false = g ∙ (ap (fits closing) (p .same-tokens ∙ nowhere s end h) ∙ none-closed) in
+        (b ∙ sym a, λ q. true-false (isRest ts) q a))
+        (λ t. let h = ltb-false (length s) end t in
+        let v = w .found h in
+        let d : tokens (drop mark s) ≡ drop 1 ts = p .same-tokens ∙ v .1 in
+        let o : is (44 ∷ []) (getD (drop 1 ts) 0 []) ≡ false = rw (← v .1) (mark-other s end mark 44 p refl few f) in
+        let r = last-rest ts (v .0) o in
+        (g ∙ (ap (fits closing) d ∙ sym (r .0)), r .1))
+
+    pub last-step : (steps from first : ℕ) (x y : Taken) → Past s from first → Told steps s first x at y → SeriesAt steps s from x good y
+    unfolding takeAll
+    last-step steps from first x y b l =
+        let r = rest-closed in
+        let i = r .0 ∙ sym (l .its-form) in
+        let k : good ≡ true → y ≡ tellAll steps x (stepsIn (countOf (tokens (drop first s))) (tokens (drop first s))) =
+        λ q. sym (l .its-steps (sym i ∙ q) ∙ ap (λ (ss : List (Step (List ℕ))). tellAll steps y ss) (r .1 (sym (r .0) ∙ q))) in
         record {
-          its-form = i;
-          its-steps = λ q. n .its-tally h ∙ sym (l .1 (sym i ∙ q) ∙ ap (λ (ss : List (Step (List ℕ))). tellAll steps x ss) (left-last vs (w .0) o (sym c ∙ q)));
-        })
+          its-form = i ∙ ap isSeries (b .same-tokens);
+          its-steps = λ q. k q ∙ ap (λ (us : List (List ℕ)). tellAll steps x (stepsIn (countOf us) us)) (b .same-tokens);
+        }
 
-    module _ (e : getD s mark 0 ≡ 44) where
-      comma-first : tokens (drop next s) ≡ (44 ∷ []) ∷ tokens (drop (mark + 1) s)
-      unfolding isMark
-      comma-first = mark-rest s next mark 44 p refl few e
+-- ---- no step
 
-      step-within : next ≤ length s
-      step-within =
-          by-test (ltb (length s) next)
-          (λ t. let z = ap length (sym (nowhere s next (ltb-true (length s) next t)) ∙ comma-first) in absurd (omega arith))
-          (λ t. ltb-false (length s) next t)
+module _ (s : List ℕ) (few : length s ≤ objectMost) (from first : ℕ) (p : Past s from first) where
+  pub no-steps : (steps : ℕ) (x : Taken) (good : Bool) → getD s first 0 ≡ 93 → good ≡ fits closing (tokens (drop first s))
+      → SeriesAt steps s from x good x
+  unfolding isMark takeAll
+  no-steps steps x good e g =
+      let us = tokens (drop from s) in
+      let c : good ≡ fits closing us = g ∙ ap (fits closing) (p .same-tokens) in
+      let t = mark-first s from first 93 p refl few e in
+      record {
+        its-form = c ∙ sym (begins-end us t);
+        its-steps = λ q. sym (ap (λ (ss : List (Step (List ℕ))). tellAll steps x ss) (left-end us (sym c ∙ q)));
+      }
 
-      after-step : drop 13 vs ≡ (44 ∷ []) ∷ tokens (drop (mark + 1) s)
-      after-step = sym (n .walked .found step-within .1) ∙ comma-first
-
-      its-comma : is (44 ∷ []) (44 ∷ []) ≡ true
-      unfolding same
-      its-comma = refl
-
-      pub one-less : length (tokens (drop (mark + 1) s)) < length vs
-      one-less = omega (arith, length-drop 13 vs, ap length after-step)
-
-      pub one-more : Left (mark + 1) y
-      unfolding takeAll
-      one-more =
-          let w = n .walked .found step-within .0 in
-          let a = after-comma vs w (44 ∷ []) (tokens (drop (mark + 1) s)) after-step its-comma in (
-            l .0 ∙ a,
-            λ q. l .1 q
-                ∙ (ap (λ (ss : List (Step (List ℕ))). tellAll steps x ss) (left-comma vs w (44 ∷ []) (tokens (drop (mark + 1) s)) after-step its-comma (sym (l .0 ∙ a) ∙ q))
-                ∙ ap (λ (z : Taken). tellAll steps z (stepsLeft (tokens (drop (mark + 1) s)))) (sym (n .its-tally step-within))),
-          )
+  pub not-none : (getD s first 0 ≡ 93 → ⊥) → is (93 ∷ []) (firstToken s first) ≡ false
+  unfolding isMark
+  not-none f = rw (p .same-tokens) (mark-other s from first 93 p refl few f)
 
 -- ---- a step more, by what it says
 

@@ -4,10 +4,10 @@ use mathlib.Core.Bool.{Bool, true, false, false≢true, cond, not, _&&_}
 use mathlib.Core.List.{List, [], _∷_, _++_}
 use Prim.Native.Nat.{ℕ, _+_, _-_, _<_, _≤_}
 use native.Mathlib.Omega.{arith}
-use lib.Dec.{ltb}
+use lib.Dec.{ltb, eqb}
 use lib.ListN.{length, getD, take, drop, length-take, length-drop, length-append, List·getD-eq-default, List·getD-append}
 use lib.Seq.{getD-drop, getD-take, getD-append-seam, length-take-le}
-use borrow.Author.Tests.{ltb-true, ltb-false}
+use borrow.Author.Tests.{ltb-true, ltb-false, eqb-true}
 use Rattle.lists.specs.Searches.{every, same}
 use Rattle.lists.proofs.Tests.{by-test, true-false, and-left, and-right, and-true}
 use Rattle.lists.proofs.Searches.{same-refl, same-true, every-at}
@@ -24,13 +24,15 @@ use Rattle.request.specs.Writing.{objectMost}
 use Rattle.request.specs.Reading.{isLabelByte, isRun}
 use Rattle.request.specs.Objects.{fromName, untilName, powerName}
 use Rattle.request.proofs.Unquoted.{label-unquoted}
-use Rattle.request_reader.specs.Walking.{starts, Past, Walked, Opened, RunTo, firstToken, framed, between}
-use Rattle.request_reader.specs.Steps.{labelTests, LabelAt, powerOf, powerTests, PowerAt, stepTests, stepIn, saidOf, saidBy, StepAt}
+use Rattle.request_reader.specs.Walking.{starts, Past, Walked, Passed, Opened, RunTo, firstToken, framed, between}
+use Rattle.request_reader.specs.Steps.{labelTests, LabelAt, powerOf, PowerAt, frontTests, stepIn, saidOf, saidBy, StepAt}
+use Rattle.request_reader.specs.Steps.{beforeFrom, beforeUntil, beforePower, FiveAt, LaidOut}
 use Rattle.request_reader.proofs.Walks.{starts-one, walked-on}
 use Rattle.request.proofs.Fits.{inside-quoted}
 use Rattle.request_reader.proofs.Values.{by-none, value-found, value-framed, value-tokens, member-token}
 use Rattle.request_reader.proofs.Heads.{walked-within}
-use Rattle.request_reader.proofs.Runs.{digits-lost, digits-found, digits-token}
+use Rattle.request_reader.proofs.Passing.{passed-on}
+use Rattle.request_reader.proofs.ByteRuns.{digits-lost, digits-found, digits-token}
 
 -- ---- a walk from a place past blanks is one from before them
 
@@ -164,7 +166,7 @@ power-last u v n e p =
 not-is : (v n : ℕ) → Not ≡ Is v n → ⊥
 not-is v n q = let z : _≡_ {A = ℕ} 0 1 = cc in omega arith
 
-said-run : (right : Bool) (u : List ℕ) → every isDigit u ≡ true
+pub said-run : (right : Bool) (u : List ℕ) → every isDigit u ≡ true
     → saidOf right (powerOf u) ≡ cond (not right) NoLabels (cond (not (isPower (u ++ 59 ∷ []))) NoPower (Gives (powerValue (u ++ 59 ∷ []))))
 unfolding powerOf
 said-run false u e = refl
@@ -189,11 +191,10 @@ third-passes a b q (x ∷ y ∷ z ∷ us) e = and-left (q z) true (and-right (b 
 
 -- ---- THE STEP
 
-module _ (from until s : List ℕ) (at inner first next second last third end : ℕ) (right₁ right₂ : Bool) (power : Power)
+module _ (from until s : List ℕ) (at inner first next second last third : ℕ) (right₁ right₂ : Bool) (power : Power)
     (w1 : Walked (is (123 ∷ []) ∷ []) s at inner) (l1 : LabelAt (quoted fromName) from s inner first right₁)
     (w2 : Walked (is (44 ∷ []) ∷ []) s first next) (l2 : LabelAt (quoted untilName) until s next second right₂)
-    (w3 : Walked (is (44 ∷ []) ∷ []) s second last) (p1 : PowerAt (quoted powerName) s last third power)
-    (w4 : Walked (is (125 ∷ []) ∷ []) s third end) where
+    (w3 : Walked (is (44 ∷ []) ∷ []) s second last) (p1 : PowerAt (quoted powerName) s last third power) where
   abbrev ts : List (List ℕ)
   ts = tokens (drop at s)
 
@@ -212,9 +213,6 @@ module _ (from until s : List ℕ) (at inner first next second last third end : 
   abbrev t5 : List (List ℕ → Bool)
   t5 = is (123 ∷ []) ∷ (labelTests (quoted fromName) ++ is (44 ∷ []) ∷ (labelTests (quoted untilName) ++ is (44 ∷ []) ∷ []))
 
-  abbrev t6 : List (List ℕ → Bool)
-  t6 = is (123 ∷ []) ∷ (labelTests (quoted fromName) ++ is (44 ∷ []) ∷ (labelTests (quoted untilName) ++ is (44 ∷ []) ∷ powerTests (quoted powerName)))
-
   abbrev rest : (List ℕ → Bool) → List (List ℕ → Bool)
   rest q = is (58 ∷ []) ∷ q ∷ []
 
@@ -230,36 +228,30 @@ module _ (from until s : List ℕ) (at inner first next second last third end : 
   v5 : Walked t5 s at last
   v5 = walked-on t4 (is (44 ∷ [])) [] s at second last v4 w3
 
-  v6 : Walked t6 s at third
+  v6 : Walked frontTests s at third
   v6 = walked-on t5 (is (quoted powerName)) (rest isRun) s at last third v5 (p1 .walked)
 
-  v7 : Walked stepTests s at end
-  v7 = walked-on t6 (is (125 ∷ [])) [] s at third end v6 w4
-
-  module _ (h : end ≤ length s) where
-    h3 : third ≤ length s
-    h3 = walked-within (is (125 ∷ [])) [] s third end w4 h
-
+  module _ (h : third ≤ length s) where
     hl : last ≤ length s
-    hl = walked-within (is (quoted powerName)) (rest isRun) s last third (p1 .walked) h3
+    hl = walked-within (is (quoted powerName)) (rest isRun) s last third (p1 .walked) h
 
-    h2 : second ≤ length s
-    h2 = walked-within (is (44 ∷ [])) [] s second last w3 hl
+    second-within : second ≤ length s
+    second-within = walked-within (is (44 ∷ [])) [] s second last w3 hl
 
     hn : next ≤ length s
-    hn = walked-within (is (quoted untilName)) (rest (quotedBy (every isLabelByte))) s next second (l2 .walked) h2
+    hn = walked-within (is (quoted untilName)) (rest (quotedBy (every isLabelByte))) s next second (l2 .walked) second-within
 
-    h1 : first ≤ length s
-    h1 = walked-within (is (44 ∷ [])) [] s first next w2 hn
+    first-within : first ≤ length s
+    first-within = walked-within (is (44 ∷ [])) [] s first next w2 hn
 
     hi : inner ≤ length s
-    hi = walked-within (is (quoted fromName)) (rest (quotedBy (every isLabelByte))) s inner first (l1 .walked) h1
+    hi = walked-within (is (quoted fromName)) (rest (quotedBy (every isLabelByte))) s inner first (l1 .walked) first-within
 
     its-from : right₁ ≡ same (getD ts 3 []) (quoted from)
-    its-from = l1 .its-label h1 ∙ ap (λ (x : List ℕ). same x (quoted from)) (ap (λ (us : List (List ℕ)). getD us 2 []) (w1 .found hi .1) ∙ getD-drop 1 ts 2 [])
+    its-from = l1 .its-label first-within ∙ ap (λ (x : List ℕ). same x (quoted from)) (ap (λ (us : List (List ℕ)). getD us 2 []) (w1 .found hi .1) ∙ getD-drop 1 ts 2 [])
 
     its-until : right₂ ≡ same (getD ts 7 []) (quoted until)
-    its-until = l2 .its-label h2 ∙ ap (λ (x : List ℕ). same x (quoted until)) (ap (λ (us : List (List ℕ)). getD us 2 []) (v3 .found hn .1) ∙ getD-drop 5 ts 2 [])
+    its-until = l2 .its-label second-within ∙ ap (λ (x : List ℕ). same x (quoted until)) (ap (λ (us : List (List ℕ)). getD us 2 []) (v3 .found hn .1) ∙ getD-drop 5 ts 2 [])
 
     power-token : getD (tokens (drop last s)) 2 [] ≡ getD ts 11 []
     power-token = ap (λ (us : List (List ℕ)). getD us 2 []) (v5 .found hl .1) ∙ getD-drop 9 ts 2 []
@@ -267,16 +259,63 @@ module _ (from until s : List ℕ) (at inner first next second last third end : 
     -- the twelfth token is a run of digits
     its-run : every isDigit (getD ts 11 []) ≡ true
     its-run =
-        rw power-token at (and-right (ltb 0 (length (getD (tokens (drop last s)) 2 []))) (every isDigit (getD (tokens (drop last s)) 2 [])) (third-passes (is (quoted powerName)) (is (58 ∷ [])) isRun (tokens (drop last s)) (p1 .walked .found h3 .0)))
+        rw power-token at (and-right (ltb 0 (length (getD (tokens (drop last s)) 2 []))) (every isDigit (getD (tokens (drop last s)) 2 [])) (third-passes (is (quoted powerName)) (is (58 ∷ [])) isRun (tokens (drop last s)) (p1 .walked .found h .0)))
 
     its-said : saidOf (right₁ && right₂) power ≡ saidBy from until (stepIn ts)
     unfolding saidBy
     its-said =
-        let e : power ≡ powerOf (getD ts 11 []) = p1 .its-power h3 ∙ ap powerOf power-token in
+        let e : power ≡ powerOf (getD ts 11 []) = p1 .its-power h ∙ ap powerOf power-token in
         ap (λ (p : Power). saidOf (right₁ && right₂) p) e ∙ (said-run (right₁ && right₂) (getD ts 11 []) its-run ∙ rw (its-from, its-until))
 
-  pub step-read : (said : LinePower) → said ≡ saidOf (right₁ && right₂) power → StepAt from until s at end said
-  step-read said e = record { walked = v7; its-said = λ h. e ∙ its-said h }
+  pub step-read : (said : LinePower) → said ≡ saidOf (right₁ && right₂) power → StepAt from until s at third said
+  step-read said e = record { walked = v6; its-said = λ h. e ∙ its-said h }
+
+  -- how it is laid out, where both labels have five bytes of which the last is 0
+  module _ (h : third ≤ length s) (from₁ from₂ from₃ : ℕ) (b1 : first ≤ length s → Passed (quoted fromName ∷ (58 ∷ []) ∷ []) s inner from₁)
+      (b2 : second ≤ length s → Passed (quoted untilName ∷ (58 ∷ []) ∷ []) s next from₂) where
+    pub labels-within : length s ≤ objectMost → (from₁ ≤ objectMost) × (from₂ ≤ objectMost)
+    labels-within few = (omega (arith, b1 (first-within h) .within), omega (arith, b2 (second-within h) .within))
+
+    pub laid-out : (regular : Bool) → (inner ≤ length s → Passed ((123 ∷ []) ∷ []) s at inner) → (next ≤ length s → Passed ((44 ∷ []) ∷ []) s first next)
+        → (last ≤ length s → Passed ((44 ∷ []) ∷ []) s second last) → (third ≤ length s → Passed (quoted powerName ∷ (58 ∷ []) ∷ []) s last from₃)
+        → first ≡ from₁ + 7 → second ≡ from₂ + 7 → FiveAt s from₁ → FiveAt s from₂
+        → LaidOut beforeFrom s at (record { regular = regular; first = from₁; second = from₂; power = from₃ })
+    laid-out regular a1 a2 a3 b3 e f u v =
+        let to-until : Passed beforeUntil s first from₂ =
+        passed-on ((44 ∷ []) ∷ []) (quoted untilName ∷ (58 ∷ []) ∷ []) s first next from₂ (a2 (hn h)) (b2 (second-within h)) in
+        let to-power : Passed beforePower s second from₃ =
+        passed-on ((44 ∷ []) ∷ []) (quoted powerName ∷ (58 ∷ []) ∷ []) s second last from₃ (a3 (hl h)) (b3 h) in
+        record {
+          to-from = passed-on ((123 ∷ []) ∷ []) (quoted fromName ∷ (58 ∷ []) ∷ []) s at inner from₁ (a1 (hi h)) (b1 (first-within h));
+          from-label = u;
+          to-until = rw e at to-until;
+          until-label = v;
+          to-power = rw f at to-power;
+        }
+
+pub five-at : (s : List ℕ) (at : ℕ) → ((eqb (getD s at 0) 34 && eqb (getD s (at + 5) 0) 48) && eqb (getD s (at + 6) 0) 34) ≡ true → FiveAt s at
+five-at s at e =
+    let o = eqb (getD s at 0) 34 in
+    let l = eqb (getD s (at + 5) 0) 48 in
+    let c = eqb (getD s (at + 6) 0) 34 in
+    let f = and-left (o && l) c e in
+    record {
+      opens = eqb-true (getD s at 0) 34 (and-left o l f);
+      last = eqb-true (getD s (at + 5) 0) 48 (and-right o l f);
+      closes = eqb-true (getD s (at + 6) 0) 34 (and-right (o && l) c e);
+    }
+
+-- the tests that say so
+pub regular-parts : (five₁ five₂ : Bool) (a b c d : ℕ) → (((five₁ && five₂) && eqb a b) && eqb c d) ≡ true
+    → (five₁ ≡ true) × (five₂ ≡ true) × (a ≡ b) × (c ≡ d)
+regular-parts five₁ five₂ a b c d e =
+    let f = and-left ((five₁ && five₂) && eqb a b) (eqb c d) e in
+    let g = and-left (five₁ && five₂) (eqb a b) f in (
+      and-left five₁ five₂ g,
+      and-right five₁ five₂ g,
+      eqb-true a b (and-right (five₁ && five₂) (eqb a b) f),
+      eqb-true c d (and-right ((five₁ && five₂) && eqb a b) (eqb c d) e),
+    )
 
 -- ---- what is said, case by case
 

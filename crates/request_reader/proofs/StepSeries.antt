@@ -3,21 +3,21 @@
 use mathlib.Core.Path.{_≡_, refl, sym, ap, _∙_}
 use mathlib.Core.Bool.{Bool, true, false, false≢true, _&&_}
 use mathlib.Core.List.{List, [], _∷_, _++_, append-assoc, map}
-use Prim.Native.Nat.{ℕ, zero, suc, _+_, _-_, _/_, _<_, _≤_}
+use Prim.Native.Nat.{ℕ, zero, suc, _≤_}
 use native.Mathlib.Omega.{arith}
 use lib.Dec.{ltb}
-use lib.ListN.{length, getD, drop, replicate, length-drop}
+use lib.ListN.{length, getD, drop, replicate, length-drop, length-append}
 use lib.Seq.{drop-drop}
 use borrow.Author.Tests.{ltb-true, ltb-false}
 use Rattle.lists.specs.Searches.{same}
-use Rattle.lists.proofs.Tests.{by-test, true-false, and-right}
+use Rattle.lists.proofs.Tests.{by-test, true-false, and-left, and-right, left-false}
 use Rattle.lists.proofs.Searches.{same-true}
 use Rattle.request.specs.Tokens.{fits, is}
-use Rattle.request.specs.Objects.{Step, further, parted, stepOf}
+use Rattle.request.specs.Objects.{further, parted, stepOf}
 use Rattle.request.specs.Reading.{stepTest, stepsIn}
 use Rattle.request_reader.specs.Walking.{starts}
-use Rattle.request_reader.specs.Steps.{stepTests, stepIn}
-use Rattle.request_reader.specs.Series.{closing, seriesTests, countOf, isSeries}
+use Rattle.request_reader.specs.Steps.{frontTests, stepIn}
+use Rattle.request_reader.specs.Series.{closing, seriesTests, countOf, isSeries, restTests, moreOf, isRest, stepsRest}
 
 -- ---- tests of tokens, part by part
 
@@ -29,7 +29,8 @@ pub fits-append : (ps qs : List (List ℕ → Bool)) (ts : List (List ℕ)) → 
 unfolding fits starts
 fits-append [] qs ts = refl
 fits-append (p ∷ ps) qs [] = refl
-fits-append (p ∷ ps) qs (t ∷ ts) = ap (λ (b : Bool). p t && b) (fits-append ps qs ts) ∙ sym (and-assoc (p t) (starts ps ts) (fits qs (drop (length ps) ts)))
+fits-append (p ∷ ps) qs (t ∷ ts) =
+    ap (λ (b : Bool). p t && b) (fits-append ps qs ts) ∙ sym (and-assoc (p t) (starts ps ts) (fits qs (drop (length ps) ts)))
 
 fits-length : (ps : List (List ℕ → Bool)) (ts : List (List ℕ)) → fits ps ts ≡ true → length ps ≡ length ts
 unfolding fits
@@ -38,7 +39,7 @@ fits-length [] (t ∷ ts) e = absurd (false≢true e)
 fits-length (p ∷ ps) [] e = absurd (false≢true e)
 fits-length (p ∷ ps) (t ∷ ts) e = ap suc (fits-length ps ts (and-right (p t) (fits ps ts) e))
 
-pub starts-length : (ps : List (List ℕ → Bool)) (ts : List (List ℕ)) → starts ps ts ≡ true → length ps ≤ length ts
+starts-length : (ps : List (List ℕ → Bool)) (ts : List (List ℕ)) → starts ps ts ≡ true → length ps ≤ length ts
 unfolding starts
 starts-length [] ts e = omega arith
 starts-length (p ∷ ps) [] e = absurd (false≢true e)
@@ -54,16 +55,31 @@ short-none ps ts h = by-test (fits ps ts) (λ e. absurd (h (fits-length ps ts e)
 abbrev others : ℕ → List (List ℕ → Bool)
 others n = further is (map (stepOf is) (replicate n stepTest)) ++ closing
 
-step-tests : stepOf is stepTest ≡ stepTests
+-- a step is its front and the `}` after it
+front-rest : (n : ℕ) → stepOf is stepTest ++ others n ≡ frontTests ++ restTests n
 unfolding stepOf parted further
-step-tests = refl
+front-rest n = refl
 
 -- a step and so many more
-steps-fit : (n : ℕ) (ts : List (List ℕ)) → fits (seriesTests (suc n)) ts ≡ (starts stepTests ts && fits (others n) (drop 13 ts))
+steps-fit : (n : ℕ) (ts : List (List ℕ)) → fits (seriesTests (suc n)) ts ≡ (starts frontTests ts && fits (restTests n) (drop 12 ts))
 unfolding parted
 steps-fit n ts =
-    ap (λ (ps : List (List ℕ → Bool)). fits ps ts) (append-assoc (stepOf is stepTest) (further is (map (stepOf is) (replicate n stepTest))) closing)
-    ∙ (ap (λ (ps : List (List ℕ → Bool)). fits (ps ++ others n) ts) step-tests ∙ fits-append stepTests (others n) ts)
+    let assoc = append-assoc (stepOf is stepTest) (further is (map (stepOf is) (replicate n stepTest))) closing in
+    ap (λ (ps : List (List ℕ → Bool)). fits ps ts) (assoc ∙ front-rest n) ∙ fits-append frontTests (restTests n) ts
+
+series-none : (ts : List (List ℕ)) → fits (seriesTests 0) ts ≡ fits closing ts
+unfolding parted
+series-none ts = refl
+
+-- ---- after a step's power
+
+rest-one : (n : ℕ) (t : List ℕ) (ts : List (List ℕ)) → fits (restTests n) (t ∷ ts) ≡ (is (125 ∷ []) t && fits (others n) ts)
+unfolding fits
+rest-one n t ts = refl
+
+rest-empty : (n : ℕ) → fits (restTests n) [] ≡ false
+unfolding fits
+rest-empty n = refl
 
 others-none : (ts : List (List ℕ)) → fits (others 0) ts ≡ fits closing ts
 unfolding further
@@ -77,126 +93,135 @@ others-empty : (n : ℕ) → fits (others (suc n)) [] ≡ false
 unfolding further fits
 others-empty n = refl
 
--- ---- at least one step is to come
+rest-length : (n : ℕ) → 3 ≤ length (restTests n)
+rest-length n = let e = length-append (further is (map (stepOf is) (replicate n stepTest))) closing in omega arith
 
-abbrev moreOf : List (List ℕ) → ℕ
-moreOf vs = (length vs - 15) / 14
+pub no-rest : isRest [] ≡ false
+unfolding isRest
+no-rest = rest-empty (moreOf [])
 
-unfoldable pub atLeast : List (List ℕ) → Bool
-atLeast vs = fits (seriesTests (suc (moreOf vs))) vs
+closing-first : (ts : List (List ℕ)) → is (93 ∷ []) (getD ts 0 []) ≡ false → fits closing ts ≡ false
+unfolding fits
+closing-first [] f = refl
+closing-first (t ∷ ts) f = rw f
 
-abbrev pub stepsLeft : List (List ℕ) → List (Step (List ℕ))
-stepsLeft vs = stepsIn (suc (moreOf vs)) vs
+module _ (vs : List (List ℕ)) where
+  abbrev after : List (List ℕ)
+  after = (125 ∷ []) ∷ (44 ∷ []) ∷ vs
 
-at-least : (vs : List (List ℕ)) → atLeast vs ≡ (starts stepTests vs && fits (others (moreOf vs)) (drop 13 vs))
-unfolding atLeast
-at-least vs = steps-fit (moreOf vs) vs
+  more-count : moreOf after ≡ countOf vs
+  more-count = omega arith
 
--- fewer tokens than a step and what closes the object are none
-few-none : (vs : List (List ℕ)) → length vs < 15 → atLeast vs ≡ false
-few-none vs h =
-    let m : moreOf vs ≡ 0 = omega arith in
-    by-test (starts stepTests vs)
-    (λ s. at-least vs ∙ rw (s, m) (others-none (drop 13 vs) ∙ short-none closing (drop 13 vs) (λ (e : 2 ≡ length (drop 13 vs)). omega (arith, length-drop 13 vs))))
-    (λ s. at-least vs ∙ rw s)
+  after-more : (n : ℕ) → fits (restTests (suc n)) after ≡ fits (seriesTests (suc n)) vs
+  unfolding same
+  after-more n = rest-one (suc n) (125 ∷ []) ((44 ∷ []) ∷ vs) ∙ others-more n (44 ∷ []) vs
 
-pub no-step : (vs : List (List ℕ)) → starts stepTests vs ≡ false → atLeast vs ≡ false
-no-step vs s = at-least vs ∙ rw s
+  after-none : fits (restTests 0) after ≡ false
+  unfolding fits further same
+  after-none = refl
 
--- what closes the object begins with no comma
-comma-closes : (t : List ℕ) (ts : List (List ℕ)) → is (44 ∷ []) t ≡ true → fits closing (t ∷ ts) ≡ false
-unfolding fits same
-comma-closes t ts e = let z = same-true t (44 ∷ []) e in rw z
+  -- the steps after a comma are a series
+  after-series : fits closing vs ≡ false → isRest after ≡ isSeries vs
+  unfolding isRest isSeries
+  after-series f = ap (λ (n : ℕ). fits (restTests n) after) more-count ∙ by-count (countOf vs)
+    where
+      by-count : (n : ℕ) → fits (restTests n) after ≡ fits (seriesTests n) vs
+      by-count zero = after-none ∙ sym (series-none vs ∙ f)
+      by-count (suc n) = after-more n
 
-module _ (vs : List (List ℕ)) (s : starts stepTests vs ≡ true) where
-  room : 13 ≤ length vs
-  room = starts-length stepTests vs s
+  module _ (s : starts frontTests vs ≡ true) where
+    room : 12 ≤ length vs
+    room = starts-length frontTests vs s
 
-  -- ---- a comma after the step
+    not-closing : fits closing vs ≡ false
+    not-closing = short-none closing vs (λ (e : 2 ≡ length vs). let r = room in omega arith)
 
-  module _ (t : List ℕ) (xs : List (List ℕ)) (e : drop 13 vs ≡ t ∷ xs) (c : is (44 ∷ []) t ≡ true) where
-    long : length vs ≡ 14 + length xs
-    long = let r = room in omega (arith, length-drop 13 vs, ap length e)
+    pub first-front :
+        (isSeries vs ≡ isRest (drop 12 vs)) × (isSeries vs ≡ true → stepsIn (countOf vs) vs ≡ stepIn vs ∷ stepsRest (drop 12 vs))
+    unfolding isSeries isRest stepsIn
+    first-front =
+        by-test (ltb (length vs) 15)
+        (λ h. let l = ltb-true (length vs) 15 h in
+        let m : countOf vs ≡ 0 = omega arith in
+        let e : isSeries vs ≡ false = rw m (series-none vs ∙ not-closing) in
+        let d : isRest (drop 12 vs) ≡ false = short-none (restTests (moreOf (drop 12 vs))) (drop 12 vs)
+        (λ i. let k = rest-length (moreOf (drop 12 vs)) in let r = room in omega (arith, length-drop 12 vs)) in
+        (e ∙ sym d, λ q. true-false (isSeries vs) q e))
+        (λ h. let l = ltb-false (length vs) 15 h in
+        let m : countOf vs ≡ suc (moreOf (drop 12 vs)) = omega (arith, length-drop 12 vs) in (
+          rw m (steps-fit (moreOf (drop 12 vs)) vs ∙ rw s),
+          λ q. rw m (ap (λ (us : List (List ℕ)). stepIn vs ∷ stepsIn (moreOf (drop 12 vs)) us) (sym (drop-drop 2 12 vs))),
+        ))
 
-    pub after-comma : atLeast vs ≡ atLeast xs
-    unfolding atLeast
-    after-comma =
-        by-test (ltb (length xs) 15)
-        (λ h. let l = ltb-true (length xs) 15 h in
-        let m : moreOf vs ≡ 0 = omega (arith, long) in
-        at-least vs ∙ (rw (s, m, e) (others-none (t ∷ xs) ∙ comma-closes t xs c) ∙ sym (few-none xs l)))
-        (λ h. let l = ltb-false (length xs) 15 h in
-        let m : moreOf vs ≡ suc (moreOf xs) = omega (arith, long) in
-        at-least vs ∙ rw (s, m, e) (others-more (moreOf xs) t xs ∙ rw c))
+    pub rest-front : (isRest after ≡ isRest (drop 12 vs)) × (isRest after ≡ true → stepsRest after ≡ stepIn vs ∷ stepsRest (drop 12 vs))
+    rest-front =
+        let e = after-series not-closing in
+        (e ∙ first-front .0, λ q. ap (λ (n : ℕ). stepsIn n vs) more-count ∙ first-front .1 (sym e ∙ q))
 
-    pub left-comma : atLeast xs ≡ true → stepsLeft vs ≡ stepIn vs ∷ stepsLeft xs
-    unfolding stepsIn
-    left-comma a =
-        by-test (ltb (length xs) 15)
-        (λ h. true-false (atLeast xs) a (few-none xs (ltb-true (length xs) 15 h)))
-        (λ h. let l = ltb-false (length xs) 15 h in
-        let m : moreOf vs ≡ suc (moreOf xs) = omega (arith, long) in
-        let d : drop 14 vs ≡ xs = sym (drop-drop 1 13 vs) ∙ ap (drop 1) e in
-        rw (m, d))
+  -- ---- no step
 
-  -- ---- none after it
+  module _ (s : starts frontTests vs ≡ false) where
+    series-fails : (n : ℕ) → fits (seriesTests (suc n)) vs ≡ false
+    series-fails n = steps-fit n vs ∙ rw s
 
-  module _ (c : is (44 ∷ []) (getD (drop 13 vs) 0 []) ≡ false) where
-    closes-two : fits closing (drop 13 vs) ≡ true → moreOf vs ≡ 0
-    closes-two f =
-        let r = room in
-        let l = fits-length closing (drop 13 vs) f in
-        omega (arith, length-drop 13 vs)
+    pub no-front : isRest after ≡ false
+    unfolding isRest
+    no-front = by-count (moreOf after)
+      where
+        by-count : (n : ℕ) → fits (restTests n) after ≡ false
+        by-count zero = after-none
+        by-count (suc n) = after-more n ∙ series-fails n
 
-    no-others : (n : ℕ) (ws : List (List ℕ)) → is (44 ∷ []) (getD ws 0 []) ≡ false → fits (others (suc n)) ws ≡ false
-    no-others n [] f = others-empty n
-    no-others n (w ∷ ws) f = others-more n w ws ∙ rw f
+    pub no-first : is (93 ∷ []) (getD vs 0 []) ≡ false → isSeries vs ≡ false
+    unfolding isSeries
+    no-first f = by-count (countOf vs)
+      where
+        by-count : (n : ℕ) → fits (seriesTests n) vs ≡ false
+        by-count zero = series-none vs ∙ closing-first vs f
+        by-count (suc n) = series-fails n
 
-    by-more : (n : ℕ) → moreOf vs ≡ n → atLeast vs ≡ fits closing (drop 13 vs)
-    by-more zero m = at-least vs ∙ rw (s, m) (others-none (drop 13 vs))
-    by-more (suc n) m =
-        by-test (fits closing (drop 13 vs))
-        (λ f. let z = closes-two f in absurd (omega arith))
-        (λ f. at-least vs ∙ (rw (s, m) (no-others n (drop 13 vs) c) ∙ sym f))
+-- ---- the last step
 
-    pub after-last : atLeast vs ≡ fits closing (drop 13 vs)
-    after-last = by-more (moreOf vs) refl
+-- without `}` the step has no end
+pub no-end : (ts : List (List ℕ)) → starts (is (125 ∷ []) ∷ []) ts ≡ false → isRest ts ≡ false
+unfolding isRest starts
+no-end [] e = rest-empty (moreOf [])
+no-end (t ∷ ts) e = rest-one (moreOf (t ∷ ts)) t ts ∙ rw (left-false (is (125 ∷ []) t) true e refl)
 
-    pub left-last : fits closing (drop 13 vs) ≡ true → stepsLeft vs ≡ stepIn vs ∷ []
-    unfolding stepsIn
-    left-last f = let m = closes-two f in rw m
+-- where no comma follows, the object is closed after it
+no-others : (n : ℕ) (ws : List (List ℕ)) → is (44 ∷ []) (getD ws 0 []) ≡ false → fits (others (suc n)) ws ≡ false
+no-others n [] f = others-empty n
+no-others n (w ∷ ws) f = others-more n w ws ∙ rw f
 
--- ---- the beginning
+closes-two : (t : List ℕ) (ts : List (List ℕ)) → fits closing ts ≡ true → moreOf (t ∷ ts) ≡ 0
+closes-two t ts f = let l = fits-length closing ts f in omega arith
+
+pub last-rest : (ts : List (List ℕ)) → starts (is (125 ∷ []) ∷ []) ts ≡ true → is (44 ∷ []) (getD (drop 1 ts) 0 []) ≡ false
+    → (isRest ts ≡ fits closing (drop 1 ts)) × (isRest ts ≡ true → stepsRest ts ≡ [])
+unfolding isRest starts stepsIn
+last-rest [] s c = absurd (false≢true s)
+last-rest (t ∷ ts) s c = (form, λ q. rw (closes-two t ts (sym form ∙ q)))
+  where
+    by-count : (n : ℕ) → moreOf (t ∷ ts) ≡ n → fits (others n) ts ≡ fits closing ts
+    by-count zero m = others-none ts
+    by-count (suc n) m =
+        by-test (fits closing ts)
+        (λ f. let z = closes-two t ts f in absurd (omega arith))
+        (λ f. no-others n ts c ∙ sym f)
+
+    form : fits (restTests (moreOf (t ∷ ts))) (t ∷ ts) ≡ fits closing ts
+    form =
+        rest-one (moreOf (t ∷ ts)) t ts
+        ∙ (ap (λ (b : Bool). b && fits (others (moreOf (t ∷ ts))) ts) (and-left (is (125 ∷ []) t) true s) ∙ by-count (moreOf (t ∷ ts)) refl)
+
+-- ---- no step at all
 
 module _ (us : List (List ℕ)) where
-  pub begins-step : is (93 ∷ []) (getD us 0 []) ≡ false → isSeries us ≡ atLeast us
-  unfolding isSeries atLeast fits parted
-  begins-step f =
-      by-test (ltb (length us) 15)
-      (λ h. let l = ltb-true (length us) 15 h in
-      let m : countOf us ≡ 0 = omega arith in
-      rw m (none us f) ∙ sym (few-none us l))
-      (λ h. let l = ltb-false (length us) 15 h in
-      let m : countOf us ≡ suc (moreOf us) = omega arith in
-      rw m)
-    where
-      none : (ws : List (List ℕ)) → is (93 ∷ []) (getD ws 0 []) ≡ false → fits (seriesTests 0) ws ≡ false
-      none [] g = refl
-      none (w ∷ ws) g = rw g
-
-  pub left-step : atLeast us ≡ true → stepsIn (countOf us) us ≡ stepsLeft us
-  left-step a =
-      by-test (ltb (length us) 15)
-      (λ h. true-false (atLeast us) a (few-none us (ltb-true (length us) 15 h)))
-      (λ h. let l = ltb-false (length us) 15 h in
-      let m : countOf us ≡ suc (moreOf us) = omega arith in
-      rw m)
-
   pub begins-end : is (93 ∷ []) (getD us 0 []) ≡ true → isSeries us ≡ fits closing us
   unfolding isSeries parted fits starts same
   begins-end f = by-count (countOf us) refl
     where
-      no-step-first : (ws : List (List ℕ)) → is (93 ∷ []) (getD ws 0 []) ≡ true → starts stepTests ws ≡ false
+      no-step-first : (ws : List (List ℕ)) → is (93 ∷ []) (getD ws 0 []) ≡ true → starts frontTests ws ≡ false
       no-step-first [] g = refl
       no-step-first (w ∷ ws) g = let z = same-true w (93 ∷ []) g in rw z
 

@@ -1,13 +1,13 @@
 -- A walk over one token: blanks are passed, and then the token stands there or it doesn't. Two walks, one after the other, are one.
 use mathlib.Core.Path.{_≡_, refl, sym, ap, _∙_}
-use mathlib.Core.Bool.{Bool, true, false, not, _&&_, _||_}
+use mathlib.Core.Bool.{Bool, true, false, _&&_, _||_}
 use mathlib.Core.List.{List, [], _∷_, _++_}
 use Prim.Native.Nat.{ℕ, suc, _+_, _-_, _<_, _≤_}
 use native.Mathlib.Nat.{add-zero}
 use native.Mathlib.Numerals.{add-one}
 use native.Mathlib.Omega.{arith}
 use lib.Dec.{eqb, ltb}
-use lib.ListN.{length, getD, take, drop, length-drop, length-append, take-append-drop, drop-of-length-le, List·getD-eq-default}
+use lib.ListN.{length, getD, drop, length-drop, length-append, take-append-drop, drop-of-length-le, List·getD-eq-default}
 use lib.Seq.{drop-cons, drop-drop, getD-drop}
 use borrow.Author.Tests.{ltb-true, ltb-false, eq-eqb, not-true}
 use Rattle.lists.specs.Searches.{every, same}
@@ -26,11 +26,11 @@ use Rattle.request_reader.proofs.Fronts.{tokens-blank, tokens-mark, tok
 pub blank-past : (s : List ℕ) (i : ℕ) → i < length s → isBlank (getD s i 0) ≡ true → tokens (drop (i + 1) s) ≡ tokens (drop i s)
 blank-past s i h e = rw (drop-cons s i 0 h, add-one i) (sym (tokens-blank (getD s i 0) (drop (suc i) s) e))
 
-pub past-here : (s : List ℕ) (at i : ℕ) → not (isBlank (getD s i 0)) ≡ true → tokens (drop i s) ≡ tokens (drop at s) → Past s at i
-past-here s at i e t = record { no-blank = not-true (isBlank (getD s i 0)) e; same-tokens = t }
+pub past-here : (s : List ℕ) (at i : ℕ) → at ≤ i → isBlank (getD s i 0) ≡ false → tokens (drop i s) ≡ tokens (drop at s) → Past s at i
+past-here s at i o e t = record { on = o; no-blank = e; same-tokens = t }
 
-pub past-end : (s : List ℕ) (at i : ℕ) → length s ≤ i → tokens (drop i s) ≡ tokens (drop at s) → Past s at i
-past-end s at i h t = record { no-blank = rw (List·getD-eq-default s 0 h); same-tokens = t }
+pub past-end : (s : List ℕ) (at i : ℕ) → at ≤ i → length s ≤ i → tokens (drop i s) ≡ tokens (drop at s) → Past s at i
+past-end s at i o h t = record { on = o; no-blank = rw (List·getD-eq-default s 0 h); same-tokens = t }
 
 -- ---- a text at a place
 
@@ -39,10 +39,6 @@ stands-past s t at h g =
     by-test (startsWith t (drop at s))
     (λ e. absurd (omega (arith, starts-long t (drop at s) e, length-drop at s)))
     (λ e. sym e)
-
-pub stands-part : (s t : List ℕ) (at : ℕ) → same (take (at + length t - at) (drop at s)) t ≡ startsWith t (drop at s)
-unfolding startsWith
-stands-part s t at = let e : at + length t - at ≡ length t = omega arith in rw e
 
 -- what a text that stands at a place leaves of the text
 pub stands-split : (s t : List ℕ) (at : ℕ) → startsWith t (drop at s) ≡ true → drop at s ≡ t ++ drop (at + length t) s
@@ -129,7 +125,7 @@ quoted-some : (t : List ℕ) → is (quoted t) [] ≡ false
 unfolding same
 quoted-some t = refl
 
-module _ (s : List ℕ) (at from : ℕ) (t : List ℕ) (p : Past s at from) (q : isQuoted t ≡ true) where
+module _ (t : List ℕ) (q : isQuoted t ≡ true) where
   its-quotes : t ≡ quoted (inside t)
   unfolding isQuoted
   its-quotes = same-true t (quoted (inside t)) (and-left (same t (quoted (inside t))) (every isPlain (inside t)) q)
@@ -144,21 +140,23 @@ module _ (s : List ℕ) (at from : ℕ) (t : List ℕ) (p : Past s at from) (q :
   text-none : is t [] ≡ false
   text-none = rw its-quotes (quoted-some (inside t))
 
+pub quoted-first : (t r : List ℕ) → isQuoted t ≡ true → tokens (t ++ r) ≡ t ∷ tokens r
+quoted-first t r q =
+    let a = its-quotes t q in
+    ap (λ (x : List ℕ). tokens (x ++ r)) a ∙ (tokens-quoted (inside t) r (its-bytes t q) ∙ ap (λ (x : List ℕ). x ∷ tokens r) (sym a))
+
+module _ (s : List ℕ) (at from : ℕ) (t : List ℕ) (p : Past s at from) (q : isQuoted t ≡ true) where
   pub text-found : startsWith t (drop from s) ≡ true → Walked (is t ∷ []) s at (from + length t)
   text-found e =
       let w = stands-split s t from e in
-      let k : tokens (t ++ drop (from + length t) s) ≡ t ∷ tokens (drop (from + length t) s) = quoted-first t (drop (from + length t) s) its-quotes its-bytes in
-      walked-found (is t) text-none s at from p t (from + length t) (ap tokens w ∙ k) (same-refl t) (stands-inside s t from text-long e)
-    where
-      quoted-first : (u r : List ℕ) → u ≡ quoted (inside u) → every isPlain (inside u) ≡ true → tokens (u ++ r) ≡ u ∷ tokens r
-      quoted-first u r a b =
-          ap (λ (x : List ℕ). tokens (x ++ r)) a ∙ (tokens-quoted (inside u) r b ∙ ap (λ (x : List ℕ). x ∷ tokens r) (sym a))
+      walked-found (is t) (text-none t q) s at from p t (from + length t) (ap tokens w ∙ quoted-first t (drop (from + length t) s) q) (same-refl t)
+      (stands-inside s t from (text-long t q) e)
 
   pub text-lost : startsWith t (drop from s) ≡ false → length s ≤ objectMost → Walked (is t ∷ []) s at 8193
   text-lost e h =
-      walked-lost (is t) text-none s at from p
+      walked-lost (is t) (text-none t q) s at from p
       (by-test (is t (firstToken s from))
-      (λ f. let g = rw (same-true (firstToken s from) t f) at (token-stands (is t) text-none s at from p) in
+      (λ f. let g = rw (same-true (firstToken s from) t f) at (token-stands (is t) (text-none t q) s at from p) in
       true-false (startsWith t (drop from s)) g e)
       (λ f. f)) h
 

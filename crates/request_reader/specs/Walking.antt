@@ -19,6 +19,7 @@ starts (p ∷ ps) (t ∷ ts) = p t && starts ps ts
 
 -- no blank stands at the place, and the tokens from it on are those from the earlier place on
 pub record Past (s : List ℕ) (at from : ℕ) : Type 0 where
+  pub on : at ≤ from
   pub no-blank : isBlank (getD s from 0) ≡ false
   pub same-tokens : tokens (drop from s) ≡ tokens (drop at s)
 
@@ -27,6 +28,23 @@ pub record Past (s : List ℕ) (at from : ℕ) : Type 0 where
 pub record Walked (ps : List (List ℕ → Bool)) (s : List ℕ) (at next : ℕ) : Type 0 where
   pub found : next ≤ length s → (starts ps (tokens (drop at s)) ≡ true) × (tokens (drop next s) ≡ drop (length ps) (tokens (drop at s)))
   pub lost : length s < next → starts ps (tokens (drop at s)) ≡ false
+
+-- so many bytes of a text from a place on
+abbrev pub part : ℕ → ℕ → List ℕ → List ℕ
+part at n s = take n (drop at s)
+
+-- four bytes from a place on as one number, and eight
+abbrev pub fourAt : List ℕ → ℕ → ℕ
+fourAt s i = getD s i 0 + 256 * (getD s (i + 1) 0 + 256 * (getD s (i + 2) 0 + 256 * getD s (i + 3) 0))
+
+abbrev pub eightAt : List ℕ → ℕ → ℕ
+eightAt s i = fourAt s i + 4294967296 * fourAt s (i + 4)
+
+-- between two places stand these tokens, whatever stands after them
+pub record Passed (ts : List (List ℕ)) (s : List ℕ) (at next : ℕ) : Type 0 where
+  pub on : at ≤ next
+  pub within : next ≤ length s
+  pub lays : (r : List ℕ) → tokens (part at (next - at) s ++ r) ≡ ts ++ tokens r
 
 -- the first token from a place on
 abbrev pub firstToken : List ℕ → ℕ → List ℕ

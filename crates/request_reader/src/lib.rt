@@ -5,6 +5,8 @@ mod head;
 mod members;
 mod moments;
 pub mod reading;
+mod runs;
 mod series;
 mod step;
 mod tokens;
+mod words;

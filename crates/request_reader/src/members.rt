@@ -62,7 +62,7 @@ pub(crate) fn code_member(s: &[u8], at: usize, name: &[u8]) -> CodeRead
 }
 
 // How many bytes a category at a place has, by where the quote after it stands.
-fn category_length(s: &[u8], from: usize) -> usize
+pub(crate) fn category_length(s: &[u8], from: usize) -> usize
     ensures { λ r. ⌜ (r ≡ cond (framed (now (s .entry)) from 5) 5 6) × (r ≤ 6) ⌝ }
 {
     if is_framed(s, from, 5) { 5 } else { 6 }

@@ -1,12 +1,19 @@
 // The steps of an object, and what closes it.
 ghost use mathlib.Core.Path.{_≡_};
-ghost use Prim.Native.Nat.{_≤_};
+ghost use mathlib.Core.Bool.{true, false};
+ghost use mathlib.Core.List.{[], _∷_};
+ghost use Prim.Native.Nat.{_<_, _≤_};
 ghost use lib.ListN.{length, drop};
 ghost use Rattle.notification.specs.Forms.{places};
 ghost use Rattle.reader.specs.Folding.{noSteps, stepTaken};
-ghost use Rattle.request.specs.Tokens.{tokens, fits};
+ghost use Rattle.request.specs.Tokens.{tokens, fits, is};
 ghost use Rattle.request.specs.Writing.{objectMost};
-ghost use Rattle.request_reader.specs.Series.{closing, firstStep, NextStep, SeriesAt};
+ghost use Rattle.request_reader.specs.Walking.{Passed, firstToken};
+ghost use Rattle.request_reader.specs.Steps.{LaidOut, beforeFrom};
+ghost use Rattle.request_reader.specs.Series.{closing, firstStep, betweenSteps, Told, Onward, NextStep, SeriesAt};
+use crate::runs::first_run;
+use crate::runs::steps_run;
+use crate::step::Layout;
 use crate::step::step_at;
 use crate::tokens::after_mark;
 use crate::tokens::past_blanks;
@@ -23,10 +30,17 @@ use request::labels::hour_label;
 // The place of the first step.
 const FIRST_STEP: u32 = 1;
 
-// What is kept after a step, and the place after it.
+// What is kept after a step's power, and the place after it.
 pub struct Stepped {
     pub tally: Tally,
     pub at: usize,
+}
+
+// The same of a step read token by token, and how it is laid out.
+pub struct StepTold {
+    pub tally: Tally,
+    pub at: usize,
+    pub layout: Layout,
 }
 
 // Whether the steps and what closes the object stand there, and what is kept of them.
@@ -48,11 +62,12 @@ fn tell(t: Tally, steps: u32, said: LinePower, powers: &mut [u16; 50]) -> Tally
 }
 
 // The next step, with the labels of its place in the day.
-fn next_step(s: &[u8], at: usize, t: Tally, steps: u32, powers: &mut [u16; 50]) -> Stepped
+fn next_step(s: &[u8], at: usize, t: Tally, steps: u32, powers: &mut [u16; 50]) -> StepTold
     requires { ⌜ (length (now s) ≤ objectMost) × (1 ≤ steps) × (steps ≤ places) ⌝ }
     ensures { λ r. ⌜ NextStep steps (now (s .entry)) at (r .at)
         (record { tally = t; powers = now (powers .entry) })
         (record { tally = r .tally; powers = now (powers .exit) }) ⌝ }
+    ensures { λ r. ⌜ (r .layout .regular ≡ true → LaidOut beforeFrom (now (s .entry)) at (r .layout)) ⌝ }
 {
     let k = least(t.lines, steps);
     let from = hour_label(steps, k);
@@ -63,9 +78,11 @@ fn next_step(s: &[u8], at: usize, t: Tally, steps: u32, powers: &mut [u16; 50]) 
     let n = until.len as usize;
     let step = step_at(s, at, &from_bytes[..m], &until_bytes[..n]);
     let said = step.said;
-    Stepped {
+    let layout = step.layout;
+    StepTold {
         tally: tell(t, steps, said, powers),
         at: step.at,
+        layout,
     }
 }
 
@@ -82,6 +99,49 @@ fn is_closed(s: &[u8], at: usize) -> bool
     s.len() <= past_blanks(s, outer)
 }
 
+// The first step and those after it without blanks.
+fn begin(s: &[u8], first: usize, steps: u32, powers: &mut [u16; 50]) -> Stepped
+    requires { ⌜ (length (now s) ≤ objectMost) × (1 ≤ steps) × (steps ≤ places)
+        × (is (93 ∷ []) (firstToken (now s) first) ≡ false) ⌝ }
+    ensures { λ r. ⌜ Told steps (now (s .entry)) first
+        (record { tally = noSteps; powers = now (powers .entry) })
+        (r .at) (record { tally = r .tally; powers = now (powers .exit) }) ⌝ }
+{
+    let run = first_run(s, first, steps, &mut *powers);
+    if run.tally.lines != 0 {
+        return run;
+    }
+    let none = Tally {
+        lines: 0,
+        verdict: Verdict::Pass,
+        any: false,
+    };
+    let step = next_step(s, first, none, steps, powers);
+    let tally = step.tally;
+    Stepped { tally, at: step.at }
+}
+
+// The next step, after the comma, and those after it that are laid out as it is, or without blanks.
+fn next_steps(
+    s: &[u8],
+    lead: usize,
+    at: usize,
+    t: Tally,
+    steps: u32,
+    powers: &mut [u16; 50],
+) -> Stepped
+    requires { ⌜ (length (now s) ≤ objectMost) × (1 ≤ steps) × (steps ≤ places)
+        × Passed betweenSteps (now s) lead at ⌝ }
+    ensures { λ r. ⌜ Onward steps (now (s .entry)) lead (record { tally = t; powers = now (powers .entry) })
+        (r .at) (record { tally = r .tally; powers = now (powers .exit) }) ⌝ }
+    ensures { λ r. ⌜ length (tokens (drop (r .at) (now (s .entry)))) < length (tokens (drop lead (now (s .entry)))) ⌝ }
+{
+    let step = next_step(s, at, t, steps, &mut *powers);
+    let tally = step.tally;
+    let layout = step.layout;
+    steps_run(s, lead, layout, step.at, tally, steps, powers)
+}
+
 // The steps and what closes the object.
 pub(crate) fn take_series(s: &[u8], from: usize, steps: u32, powers: &mut [u16; 50]) -> SeriesRead
     requires { ⌜ (length (now s) ≤ objectMost) × (1 ≤ steps) × (steps ≤ places) ⌝ }
@@ -89,30 +149,31 @@ pub(crate) fn take_series(s: &[u8], from: usize, steps: u32, powers: &mut [u16; 
         (record { tally = noSteps; powers = now (powers .entry) })
         (r .good) (record { tally = r .tally; powers = now (powers .exit) }) ⌝ }
 {
-    let mut tally = Tally {
-        lines: 0,
-        verdict: Verdict::Pass,
-        any: false,
-    };
     let first = past_blanks(s, from);
     if byte_at(s, first) == b']' {
         return SeriesRead {
             good: is_closed(s, first),
-            tally,
+            tally: Tally {
+                lines: 0,
+                verdict: Verdict::Pass,
+                any: false,
+            },
         };
     }
-    let mut at = first;
+    let begun = begin(s, first, steps, &mut *powers);
+    let mut tally = begun.tally;
+    let mut at = begun.at;
     loop {
-        let next = next_step(s, at, tally, steps, &mut *powers);
-        let sofar = next.tally;
-        let mark = past_blanks(s, next.at);
+        let end = after_mark(s, at, b'}');
+        let mark = past_blanks(s, end);
         if byte_at(s, mark) != b',' {
             return SeriesRead {
                 good: is_closed(s, mark),
-                tally: sofar,
+                tally,
             };
         }
-        tally = sofar;
-        at = mark + 1;
+        let next = next_steps(s, at, mark + 1, tally, steps, &mut *powers);
+        tally = next.tally;
+        at = next.at;
     }
 }

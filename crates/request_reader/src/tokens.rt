@@ -8,9 +8,9 @@ ghost use lib.ListN.{length, drop};
 ghost use Rattle.reader.specs.Walking.{startsWith};
 ghost use Rattle.request.specs.Tokens.{isBlank, is};
 ghost use Rattle.request.specs.Writing.{objectMost};
-ghost use Rattle.request_reader.specs.Walking.{Past, Walked, Opened, isMark, isQuoted, framed};
+ghost use Rattle.request_reader.specs.Walking.{Past, Passed, Walked, Opened, isMark, isQuoted, framed};
+use crate::words::same_text;
 use lists::bytes::byte_at;
-use reader::header::alike;
 
 // One past the end of every body.
 pub(crate) const NOWHERE: usize = 8193;
@@ -25,11 +25,14 @@ fn is_blank(b: u8) -> bool
 // The first place from a place on where no blank stands.
 pub(crate) fn past_blanks(s: &[u8], at: usize) -> usize
     ensures { λ r. ⌜ Past (now (s .entry)) at r ⌝ }
+    ensures { λ r. ⌜ (at ≤ length (now (s .entry)) → Passed [] (now (s .entry)) at r) ⌝ }
 {
     let mut i = at;
     while i < s.len() {
-        if !is_blank(s[i]) {
-            return i;
+        if s[i] != b' ' {
+            if !is_blank(s[i]) {
+                return i;
+            }
         }
         i += 1;
     }
@@ -47,13 +50,14 @@ pub(crate) fn stands(s: &[u8], at: usize, text: &[u8]) -> bool
     if s.len() - at < text.len() {
         return false;
     }
-    alike(&s[at..at + text.len()], text)
+    same_text(s, at, text)
 }
 
 // The place after the token that is a byte by itself.
 pub(crate) fn after_mark(s: &[u8], at: usize, b: u8) -> usize
     requires { ⌜ (length (now s) ≤ objectMost) × (isMark b ≡ true) ⌝ }
     ensures { λ r. ⌜ Walked (is (b ∷ []) ∷ []) (now (s .entry)) at r ⌝ }
+    ensures { λ r. ⌜ (r ≤ length (now (s .entry)) → Passed ((b ∷ []) ∷ []) (now (s .entry)) at r) ⌝ }
 {
     let from = past_blanks(s, at);
     if byte_at(s, from) == b {
@@ -67,6 +71,7 @@ pub(crate) fn after_mark(s: &[u8], at: usize, b: u8) -> usize
 pub(crate) fn after_text(s: &[u8], at: usize, text: &[u8]) -> usize
     requires { ⌜ (length (now s) ≤ objectMost) × (isQuoted (now text) ≡ true) ⌝ }
     ensures { λ r. ⌜ Walked (is (now (text .entry)) ∷ []) (now (s .entry)) at r ⌝ }
+    ensures { λ r. ⌜ (r ≤ length (now (s .entry)) → Passed (now (text .entry) ∷ []) (now (s .entry)) at r) ⌝ }
 {
     let from = past_blanks(s, at);
     if stands(s, from, text) {
@@ -94,6 +99,8 @@ pub(crate) fn is_framed(s: &[u8], from: usize, n: usize) -> bool
 pub(crate) fn value_from(s: &[u8], at: usize, name: &[u8]) -> usize
     requires { ⌜ (length (now s) ≤ objectMost) × (isQuoted (now name) ≡ true) ⌝ }
     ensures { λ r. ⌜ Opened (now (name .entry)) (now (s .entry)) at r ⌝ }
+    ensures { λ r. ⌜ (r ≤ length (now (s .entry))
+        → Passed (now (name .entry) ∷ (58 ∷ []) ∷ []) (now (s .entry)) at r) ⌝ }
 {
     let named = after_text(s, at, name);
     let marked = after_mark(s, named, b':');

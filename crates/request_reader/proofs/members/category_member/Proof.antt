@@ -1,16 +1,52 @@
 -- `members::category_member` meets its contract: a name, a colon, a category in quotes, and a comma.
 use borrow.Author.Needs.{needs}
-use mathlib.Core.Path.{refl, sym, _∙_}
+use mathlib.Core.Path.{_≡_, refl, sym, _∙_}
+use mathlib.Core.Bool.{true}
+use Prim.Native.Nat.{_+_, _≤_}
 use native.Mathlib.Omega.{arith}
+use lib.ListN.{length}
 use borrow.Author.Tests.{not-true, not-false}
-use Prim.Native.Nat.{_+_}
 use Rattle.notification.specs.Forms.{isCategory, sixBytes}
+use Rattle.request.specs.Tokens.{inside, quotedBy}
+use Rattle.request.specs.Writing.{objectMost}
 use Rattle.request.proofs.Unquoted.{category-unquoted}
-use Rattle.request_reader.specs.Walking.{isMark}
+use Rattle.request_reader.specs.Walking.{isMark, firstToken}
 use Rattle.request_reader.proofs.Values.{framed-parts}
 use Rattle.request_reader.proofs.ValueForms.{category-long, part-cut, part-found, part-unframed, part-other}
 use Rattle.request_reader.proofs.members.category_member.Statement.{statement}
 use Rattle.request_reader.proofs.members.category_member.Tie as tie
+
+-- back from a context to an earlier one
+abbrev framed : tie.After-is-category → tie.Else1
+framed c = c .before .before
+
+abbrev measured : tie.Else1 → tie.After-category-length
+measured c = c .before .before
+
+abbrev value : tie.After-category-length → tie.After-value-from
+value c = c .before
+
+abbrev start : tie.After-value-from → tie.Start
+start c = c .before .before .before
+
+-- the category and its quotes are within the bytes, which are no more than an object's most
+framed-within : (c : tie.Else1)
+    → (value (measured c) .value-from .result + measured c .category-length .result + 2 ≤ length (start (value (measured c)) .args .s .now))
+    × (length (start (value (measured c)) .args .s .now) ≤ objectMost)
+framed-within c =
+    let l = measured c in
+    let x = start (value l) in
+    let quoted = sym (c .before .is-framed .ensures) ∙ not-false _ (c .if1 .left) in
+    (framed-parts (x .args .s .now) (value l .value-from .result) (l .category-length .result) quoted .0, x .pre .0)
+
+-- a category at the value is as long as was measured
+category-length-said : (c : tie.After-category-length)
+    → quotedBy isCategory (firstToken (start (value c) .args .s .now) (value c .value-from .result)) ≡ true
+    → length (inside (firstToken (start (value c) .args .s .now) (value c .value-from .result))) ≡ c .category-length .result
+category-length-said c e =
+    let v = value c .value-from in
+    category-long (start (value c) .args .s .now) (v .ensures .0 .mid) (v .result) (v .ensures .0 .past) e
+    ∙ sym (c .category-length .ensures .0)
 
 value-from-requires : tie.Need-value-from-requires
 value-from-requires c κs = search needs
@@ -23,43 +59,21 @@ is-framed-requires c κs = omega (arith, c .category-length .ensures .1)
 
 returns : tie.Need-returns
 returns c =
-    let start = c .before .before .before .before .before .before in
-    let name = start .args .name .now in
-    let s = start .args .s .now in
-    let at = start .args .at in
-    let from = c .before .before .before .value-from .result in
-    let n = c .before .before .category-length .result in
-    part-unframed isCategory category-unquoted sixBytes name s at from (c .before .before .before .value-from .ensures) n (λ e. category-long s (c .before .before .before .value-from .ensures .mid) from (c .before .before .before .value-from .ensures .past) e ∙ sym (c .before .before .category-length .ensures .0)) _ (part-cut s from n (from + n + 1) refl) _ _ (c .before .is-framed .ensures) (not-true _ (c .if1 .taken)) (start .pre .0)
+    let l = c .before .before in
+    let v = value l in
+    let from = v .value-from .result in
+    let n = l .category-length .result in
+    part-unframed isCategory category-unquoted sixBytes _ _ _ from (v .value-from .ensures .0) n (category-length-said l) _
+    (part-cut _ from n (from + n + 1) refl) _ _ (c .before .is-framed .ensures) (not-true _ (c .if1 .taken)) (start v .pre .0)
 
 add-end : tie.Need-add-end
-add-end c =
-    let start = c .before .before .before .before .before .before in
-    let name = start .args .name .now in
-    let s = start .args .s .now in
-    let at = start .args .at in
-    let from = c .before .before .before .value-from .result in
-    let n = c .before .before .category-length .result in
-    omega (arith, start .pre .0, framed-parts s from n (sym (c .before .is-framed .ensures) ∙ not-false _ (c .if1 .left)) .0)
+add-end c = omega (arith, framed-within c)
 
 add-end-2 : tie.Need-add-end-2
-add-end-2 c =
-    let start = c .before .before .before .before .before .before in
-    let name = start .args .name .now in
-    let s = start .args .s .now in
-    let at = start .args .at in
-    let from = c .before .before .before .value-from .result in
-    let n = c .before .before .category-length .result in
-    omega (arith, start .pre .0, framed-parts s from n (sym (c .before .is-framed .ensures) ∙ not-false _ (c .if1 .left)) .0)
+add-end-2 c = omega (arith, framed-within c)
 
 add-category : tie.Need-add-category
-add-category c =
-    let start = c .before .before .before .before .before .before in
-    let name = start .args .name .now in
-    let s = start .args .s .now in
-    let at = start .args .at in
-    let from = c .before .before .before .value-from .result in
-    let n = c .before .before .category-length .result in
-    omega (arith, start .pre .0, framed-parts s from n (sym (c .before .is-framed .ensures) ∙ not-false _ (c .if1 .left)) .0)
+add-category c = omega (arith, framed-within c)
 
 sub-category : tie.Need-sub-category
 sub-category c = search needs
@@ -68,54 +82,42 @@ part-category-start : tie.Need-part-category-start
 part-category-start c = search needs
 
 part-category-end : tie.Need-part-category-end
-part-category-end c =
-    let start = c .before .before .before .before .before .before in
-    let name = start .args .name .now in
-    let s = start .args .s .now in
-    let at = start .args .at in
-    let from = c .before .before .before .value-from .result in
-    let n = c .before .before .category-length .result in
-    omega (arith, start .pre .0, framed-parts s from n (sym (c .before .is-framed .ensures) ∙ not-false _ (c .if1 .left)) .0)
+part-category-end c = omega (arith, framed-within c)
 
 is-category-requires : tie.Need-is-category-requires
 is-category-requires c κs = search needs
 
 returns-2 : tie.Need-returns-2
 returns-2 c =
-    let start = c .before .before .before .before .before .before .before .before .before in
-    let name = start .args .name .now in
-    let s = start .args .s .now in
-    let at = start .args .at in
-    let from = c .before .before .before .before .before .before .value-from .result in
-    let n = c .before .before .before .before .before .category-length .result in
-    part-other isCategory category-unquoted sixBytes name s at from (c .before .before .before .before .before .before .value-from .ensures) n (λ e. category-long s (c .before .before .before .before .before .before .value-from .ensures .mid) from (c .before .before .before .before .before .before .value-from .ensures .past) e ∙ sym (c .before .before .before .before .before .category-length .ensures .0)) _ (part-cut s from n (from + n + 1) refl) _ _ (c .before .is-category .ensures) (not-true _ (c .if2 .taken)) (start .pre .0)
+    let l = measured (framed (c .before)) in
+    let v = value l in
+    let from = v .value-from .result in
+    let n = l .category-length .result in
+    part-other isCategory category-unquoted sixBytes _ _ _ from (v .value-from .ensures .0) n (category-length-said l) _
+    (part-cut _ from n (from + n + 1) refl) _ _ (c .before .is-category .ensures) (not-true _ (c .if2 .taken)) (start v .pre .0)
 
 six-requires : tie.Need-six-requires
 six-requires c κs = search needs
 
 add-after-mark : tie.Need-add-after-mark
-add-after-mark c =
-    let start = c .before .before .before .before .before .before .before .before .before .before in
-    let name = start .args .name .now in
-    let s = start .args .s .now in
-    let at = start .args .at in
-    let from = c .before .before .before .before .before .before .before .value-from .result in
-    let n = c .before .before .before .before .before .before .category-length .result in
-    omega (arith, start .pre .0, framed-parts s from n (sym (c .before .before .before .before .before .is-framed .ensures) ∙ not-false _ (c .before .before .before .before .if1 .left)) .0)
+add-after-mark c = omega (arith, framed-within (framed (c .before .before)))
 
 after-mark-requires : tie.Need-after-mark-requires
 unfolding isMark
-after-mark-requires c κs = (c .before .before .before .before .before .before .before .before .before .before .pre .0, refl)
+after-mark-requires c κs = (start (value (measured (framed (c .before .before)))) .pre .0, refl)
 
 returns-3 : tie.Need-returns-3
 returns-3 c =
-    let start = c .before .before .before .before .before .before .before .before .before .before .before in
-    let name = start .args .name .now in
-    let s = start .args .s .now in
-    let at = start .args .at in
-    let from = c .before .before .before .before .before .before .before .before .value-from .result in
-    let n = c .before .before .before .before .before .before .before .category-length .result in
-    part-found isCategory category-unquoted sixBytes name s at from (c .before .before .before .before .before .before .before .before .value-from .ensures) n (λ e. category-long s (c .before .before .before .before .before .before .before .before .value-from .ensures .mid) from (c .before .before .before .before .before .before .before .before .value-from .ensures .past) e ∙ sym (c .before .before .before .before .before .before .before .category-length .ensures .0)) _ (part-cut s from n (from + n + 1) refl) _ _ (from + n + 1 + 1) _ _ (c .before .before .before .before .before .before .is-framed .ensures) (not-false _ (c .before .before .before .before .before .if1 .left)) (c .before .before .before .is-category .ensures) (not-false _ (c .before .before .if2 .left)) (omega arith) (c .after-mark .ensures) (c .before .six .ensures)
+    let found = c .before .before .before in
+    let f = framed found in
+    let l = measured f in
+    let v = value l in
+    let from = v .value-from .result in
+    let n = l .category-length .result in
+    part-found isCategory category-unquoted sixBytes _ _ _ from (v .value-from .ensures .0) n (category-length-said l) _
+    (part-cut _ from n (from + n + 1) refl) _ _ (from + n + 1 + 1) _ _
+    (f .before .is-framed .ensures) (not-false _ (f .if1 .left)) (found .is-category .ensures) (not-false _ (c .before .before .if2 .left))
+    (omega arith) (c .after-mark .ensures .0) (c .before .six .ensures)
 
 pub category-member-spec : {M : Type 1} → statement M
 category-member-spec =

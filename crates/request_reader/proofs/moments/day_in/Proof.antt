@@ -6,6 +6,10 @@ use Rattle.request_reader.proofs.MomentReads.{its-date}
 use Rattle.request_reader.proofs.moments.day_in.Statement.{statement}
 use Rattle.request_reader.proofs.moments.day_in.Tie as tie
 
+-- back from the context of the eight digits to the first
+abbrev start : tie.After-shared-slice-known9 → tie.Start
+start c = c .before .before .before .before .before .before .before .before .before
+
 shared-slice-read-t4 : tie.Need-shared-slice-read-t4
 shared-slice-read-t4 c = search needs
 
@@ -37,7 +41,9 @@ day-of-requires : tie.Need-day-of-requires
 day-of-requires c κs = search needs
 
 returns : tie.Need-returns
-returns c = c .day-of .ensures ∙ ap dayOf (sym (its-date (c .before .before .before .before .before .before .before .before .before .before .before .args .s .now) (c .before .before .before .before .before .before .before .before .before .before .before .pre)))
+returns c =
+    let x = start (c .before .before) in
+    c .day-of .ensures ∙ ap dayOf (sym (its-date (x .args .s .now) (x .pre)))
 
 pub day-in-spec : {M : Type 1} → statement M
 day-in-spec =

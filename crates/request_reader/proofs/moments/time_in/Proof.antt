@@ -1,11 +1,28 @@
 -- `moments::time_in` meets its contract: its test is the definition's.
 use borrow.Author.Needs.{needs}
+use Prim.Native.Nat.{_≤_}
 use native.Mathlib.Omega.{arith}
 use lib.ListN.{getD}
 use Rattle.request_reader.specs.Walking.{timeIn}
 use Rattle.request_reader.proofs.MomentReads.{pair-most}
 use Rattle.request_reader.proofs.moments.time_in.Statement.{statement}
 use Rattle.request_reader.proofs.moments.time_in.Tie as tie
+
+-- back from a context to an earlier one
+abbrev minute : tie.After-pair3 → tie.After-pair2
+minute c = c .before .before .before
+
+abbrev hour : tie.After-pair3 → tie.After-pair
+hour c = minute c .before .before .before
+
+-- none of the three is more than 100
+pairs-most : (c : tie.After-pair3) → (hour c .pair .result ≤ 100) × (minute c .pair2 .result ≤ 100) × (c .pair3 .result ≤ 100)
+pairs-most c =
+    let s = hour c .before .before .before .before .args .s .now in (
+      rw (hour c .pair .ensures) (pair-most (getD s 11 0) (getD s 12 0)),
+      rw (minute c .pair2 .ensures) (pair-most (getD s 14 0) (getD s 15 0)),
+      rw (c .pair3 .ensures) (pair-most (getD s 17 0) (getD s 18 0)),
+    )
 
 shared-slice-read-pair : tie.Need-shared-slice-read-pair
 shared-slice-read-pair c = search needs
@@ -35,24 +52,24 @@ pair-requires-3 : tie.Need-pair-requires-3
 pair-requires-3 c κs = search needs
 
 mul-result : tie.Need-mul-result
-mul-result c = omega (arith, pair-most (getD (c .before .before .before .before .before .before .before .before .before .before .before .args .s .now) 11 0) (getD (c .before .before .before .before .before .before .before .before .before .before .before .args .s .now) 12 0), pair-most (getD (c .before .before .before .before .before .before .before .before .before .before .before .args .s .now) 14 0) (getD (c .before .before .before .before .before .before .before .before .before .before .before .args .s .now) 15 0), pair-most (getD (c .before .before .before .before .before .before .before .before .before .before .before .args .s .now) 17 0) (getD (c .before .before .before .before .before .before .before .before .before .before .before .args .s .now) 18 0), c .before .before .before .before .before .before .before .pair .ensures, c .before .before .before .before .pair2 .ensures, c .before .pair3 .ensures)
+mul-result c = omega (arith, pairs-most (c .before))
 
 mul-result-2 : tie.Need-mul-result-2
-mul-result-2 c = omega (arith, pair-most (getD (c .before .before .before .before .before .before .before .before .before .before .before .args .s .now) 11 0) (getD (c .before .before .before .before .before .before .before .before .before .before .before .args .s .now) 12 0), pair-most (getD (c .before .before .before .before .before .before .before .before .before .before .before .args .s .now) 14 0) (getD (c .before .before .before .before .before .before .before .before .before .before .before .args .s .now) 15 0), pair-most (getD (c .before .before .before .before .before .before .before .before .before .before .before .args .s .now) 17 0) (getD (c .before .before .before .before .before .before .before .before .before .before .before .args .s .now) 18 0), c .before .before .before .before .before .before .before .pair .ensures, c .before .before .before .before .pair2 .ensures, c .before .pair3 .ensures)
+mul-result-2 c = omega (arith, pairs-most (c .before))
 
 add-result : tie.Need-add-result
-add-result c = omega (arith, pair-most (getD (c .before .before .before .before .before .before .before .before .before .before .before .args .s .now) 11 0) (getD (c .before .before .before .before .before .before .before .before .before .before .before .args .s .now) 12 0), pair-most (getD (c .before .before .before .before .before .before .before .before .before .before .before .args .s .now) 14 0) (getD (c .before .before .before .before .before .before .before .before .before .before .before .args .s .now) 15 0), pair-most (getD (c .before .before .before .before .before .before .before .before .before .before .before .args .s .now) 17 0) (getD (c .before .before .before .before .before .before .before .before .before .before .before .args .s .now) 18 0), c .before .before .before .before .before .before .before .pair .ensures, c .before .before .before .before .pair2 .ensures, c .before .pair3 .ensures)
+add-result c = omega (arith, pairs-most (c .before))
 
 add-result-2 : tie.Need-add-result-2
-add-result-2 c = omega (arith, pair-most (getD (c .before .before .before .before .before .before .before .before .before .before .before .args .s .now) 11 0) (getD (c .before .before .before .before .before .before .before .before .before .before .before .args .s .now) 12 0), pair-most (getD (c .before .before .before .before .before .before .before .before .before .before .before .args .s .now) 14 0) (getD (c .before .before .before .before .before .before .before .before .before .before .before .args .s .now) 15 0), pair-most (getD (c .before .before .before .before .before .before .before .before .before .before .before .args .s .now) 17 0) (getD (c .before .before .before .before .before .before .before .before .before .before .before .args .s .now) 18 0), c .before .before .before .before .before .before .before .pair .ensures, c .before .before .before .before .pair2 .ensures, c .before .pair3 .ensures)
+add-result-2 c = omega (arith, pairs-most (c .before))
 
 returns : tie.Need-returns
 unfolding timeIn
-returns c = rw (← c .before .before .before .before .before .before .before .pair .ensures, ← c .before .before .before .before .pair2 .ensures, ← c .before .pair3 .ensures, c .if1 .taken)
+returns c = rw (← hour (c .before) .pair .ensures, ← minute (c .before) .pair2 .ensures, ← c .before .pair3 .ensures, c .if1 .taken)
 
 returns-2 : tie.Need-returns-2
 unfolding timeIn
-returns-2 c = rw (← c .before .before .before .before .before .before .before .pair .ensures, ← c .before .before .before .before .pair2 .ensures, ← c .before .pair3 .ensures, c .if1 .left)
+returns-2 c = rw (← hour (c .before) .pair .ensures, ← minute (c .before) .pair2 .ensures, ← c .before .pair3 .ensures, c .if1 .left)
 
 pub time-in-spec : {M : Type 1} → statement M
 time-in-spec =

@@ -6,6 +6,16 @@ use Rattle.request_reader.proofs.ObjectReads.{too-long, head-lost, step
 use Rattle.request_reader.proofs.reading.read_text.Statement.{statement}
 use Rattle.request_reader.proofs.reading.read_text.Tie as tie
 
+-- back from a context to an earlier one
+abbrev head : tie.After-steps-of → tie.After-series-from
+head c = c .before .before
+
+abbrev short : tie.After-series-from → tie.Else1
+short c = c .before .before .before
+
+abbrev start : tie.Else1 → tie.Start
+start c = c .before .before
+
 refuse-requires : tie.Need-refuse-requires
 refuse-requires c κs = search needs
 
@@ -26,28 +36,36 @@ refuse-requires-2 c κs = search needs
 
 returns-2 : tie.Need-returns-2
 returns-2 c =
-    let start = c .before .before .before .before .before .before .before in
-    let few = c .before .before .before .before .before .if1 .left in
-    c .refuse2 .ensures ∙ head-lost (start .args .body .now) (few) _ _ _ _ _ _ _ _ _ (c .before .before .before .before .take-parties .ensures) (c .before .before .before .take-terms .ensures) (c .before .before .series-from .ensures) (c .before .if2 .taken)
+    let h = c .before .before in
+    let few = short h in
+    c .refuse2 .ensures
+    ∙ head-lost (start few .args .body .now) (few .if1 .left) _ _ _ _ _ _ _ _ _ (h .before .before .take-parties .ensures)
+    (h .before .take-terms .ensures) (h .series-from .ensures) (c .before .if2 .taken)
 
 steps-of-requires : tie.Need-steps-of-requires
 steps-of-requires c κs = search needs
 
 take-series-requires : tie.Need-take-series-requires
 take-series-requires c κs =
-    let start = c .before .before .before .before .before .before .before .before in
-    let few = c .before .before .before .before .before .before .if1 .left in
-    let w = steps-enough (start .args .body .now) (few) _ _ _ _ _ _ _ _ _ (c .before .before .before .before .before .take-parties .ensures) (c .before .before .before .before .take-terms .ensures) (c .before .before .before .series-from .ensures) (c .before .before .if2 .left) _ (c .before .steps-of .ensures) in
-    (few, w .0, w .1)
+    let h = head (c .before) in
+    let few = short h in
+    let w = steps-enough (start few .args .body .now) (few .if1 .left) _ _ _ _ _ _ _ _ _ (h .before .before .take-parties .ensures)
+    (h .before .take-terms .ensures) (h .series-from .ensures) (c .before .before .if2 .left) _ (c .before .steps-of .ensures) in
+    (few .if1 .left, w .0, w .1)
 
 refuse-requires-3 : tie.Need-refuse-requires-3
 refuse-requires-3 c κs = search needs
 
 returns-3 : tie.Need-returns-3
 returns-3 c =
-    let start = c .before .before .before .before .before .before .before .before .before .before .before .before in
-    let few = c .before .before .before .before .before .before .before .before .before .before .if1 .left in
-    c .refuse3 .ensures ∙ series-lost (start .args .body .now) (few) _ _ _ _ _ _ _ _ _ (c .before .before .before .before .before .before .before .before .before .take-parties .ensures) (c .before .before .before .before .before .before .before .before .take-terms .ensures) (c .before .before .before .before .before .before .before .series-from .ensures) (c .before .before .before .before .before .before .if2 .left) _ (c .before .before .before .before .before .steps-of .ensures) _ _ _ (c .before .before .before .take-series .ensures) (not-true _ (c .before .if3 .taken))
+    let series = c .before .before .before in
+    let counted = series .before .before in
+    let h = head counted in
+    let few = short h in
+    c .refuse3 .ensures
+    ∙ series-lost (start few .args .body .now) (few .if1 .left) _ _ _ _ _ _ _ _ _ (h .before .before .take-parties .ensures)
+    (h .before .take-terms .ensures) (h .series-from .ensures) (counted .before .if2 .left) _ (counted .steps-of .ensures) _ _ _
+    (series .take-series .ensures) (not-true _ (c .before .if3 .taken))
 
 judge-requires : tie.Need-judge-requires
 judge-requires c κs = search needs
@@ -57,9 +75,16 @@ conclude-requires c κs = search needs
 
 returns-4 : tie.Need-returns-4
 returns-4 c =
-    let start = c .before .before .before .before .before .before .before .before .before .before .before .before .before .before .before .before .before .before .before in
-    let few = c .before .before .before .before .before .before .before .before .before .before .before .before .before .before .before .before .before .if1 .left in
-    c .conclude .ensures ∙ series-found (start .args .body .now) (few) _ _ _ _ _ _ _ _ _ (c .before .before .before .before .before .before .before .before .before .before .before .before .before .before .before .before .take-parties .ensures) (c .before .before .before .before .before .before .before .before .before .before .before .before .before .before .before .take-terms .ensures) (c .before .before .before .before .before .before .before .before .before .before .before .before .before .before .series-from .ensures) (c .before .before .before .before .before .before .before .before .before .before .before .before .before .if2 .left) _ (c .before .before .before .before .before .before .before .before .before .before .before .before .steps-of .ensures) _ _ _ (c .before .before .before .before .before .before .before .before .before .before .take-series .ensures) _ (not-false _ (c .before .before .before .before .before .before .before .before .if3 .left)) refl (c .before .before .before .judge .ensures)
+    let judged = c .before .before .before in
+    let closed = judged .before .before .before .before .before in
+    let series = closed .before .before in
+    let counted = series .before .before in
+    let h = head counted in
+    let few = short h in
+    c .conclude .ensures
+    ∙ series-found (start few .args .body .now) (few .if1 .left) _ _ _ _ _ _ _ _ _ (h .before .before .take-parties .ensures)
+    (h .before .take-terms .ensures) (h .series-from .ensures) (counted .before .if2 .left) _ (counted .steps-of .ensures) _ _ _
+    (series .take-series .ensures) _ (not-false _ (closed .if3 .left)) refl (judged .judge .ensures)
 
 pub read-text-spec : {M : Type 1} → statement M
 read-text-spec =

@@ -15,13 +15,20 @@ unfolding isMark
 after-mark-requires-2 c κs = (c .before .before .pre, refl)
 
 returns : tie.Need-returns
-returns c = not-closed (c .before .before .before .before .args .s .now) (c .before .before .before .before .args .at) _ _ (c .before .before .after-mark .ensures) (c .before .after-mark2 .ensures) (c .if1 .taken)
+returns c =
+    let inner = c .before .before in
+    let a = inner .before .before .args in
+    not-closed (a .s .now) (a .at) _ _ (inner .after-mark .ensures .0) (c .before .after-mark2 .ensures .0) (c .if1 .taken)
 
 past-blanks-requires : tie.Need-past-blanks-requires
 past-blanks-requires c κs = search needs
 
 returns-2 : tie.Need-returns-2
-returns-2 c = closed-by (c .before .before .before .before .before .args .s .now) (c .before .before .before .before .before .args .at) _ _ (c .before .before .before .after-mark .ensures) (c .before .before .after-mark2 .ensures) _ (c .before .if1 .left) (c .past-blanks .ensures)
+returns-2 c =
+    let inner = c .before .before .before in
+    let a = inner .before .before .args in
+    closed-by (a .s .now) (a .at) _ _ (inner .after-mark .ensures .0) (c .before .before .after-mark2 .ensures .0) _ (c .before .if1 .left)
+    (c .past-blanks .ensures .0)
 
 pub is-closed-spec : {M : Type 1} → statement M
 is-closed-spec =

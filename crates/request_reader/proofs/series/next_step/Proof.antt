@@ -10,6 +10,13 @@ use Rattle.request_reader.proofs.SeriesReads.{next-told}
 use Rattle.request_reader.proofs.series.next_step.Statement.{statement}
 use Rattle.request_reader.proofs.series.next_step.Tie as tie
 
+-- back from a context to an earlier one
+abbrev labels : tie.After-until-bytes2 → tie.After-hour-label2
+labels c = c .before .before .before .before .before .before
+
+abbrev start : tie.After-hour-label2 → tie.Start
+start c = c .before .before .before .before .before
+
 least-requires : tie.Need-least-requires
 least-requires c κs = search needs
 
@@ -44,19 +51,21 @@ array-share-prefix-until-bytes c = search needs
 
 slice-aggregate-step-at-2 : tie.Need-slice-aggregate-step-at-2
 slice-aggregate-step-at-2 c =
-    let h = c .before .before .before .before .before .before .hour-label2 .ensures in
+    let h = labels c .hour-label2 .ensures in
     omega (arith, ap length (h .0), h .1)
 
 step-at-requires : tie.Need-step-at-requires
 step-at-requires c κs =
-    let start = c .before .before .before .before .before .before .before .before .before .before .before in
-    let h = c .before .before .before .before .before .before .before .before .hour-label .ensures in
-    let u = c .before .before .before .before .before .before .hour-label2 .ensures in (
-      start .pre .0,
-      ap (every isLabelByte) (h .0) ∙ hour-label (start .args .steps) _,
-      omega (arith, ap length (h .0), hour-length (start .args .steps) (c .before .before .before .before .before .before .before .before .before .least .result)),
-      ap (every isLabelByte) (u .0) ∙ hour-label (start .args .steps) _,
-      omega (arith, ap length (u .0), hour-length (start .args .steps) (c .before .before .before .before .before .before .before .least2 .result)),
+    let until = labels c in
+    let from = until .before .before in
+    let x = start until in
+    let h = from .hour-label .ensures in
+    let u = until .hour-label2 .ensures in (
+      x .pre .0,
+      ap (every isLabelByte) (h .0) ∙ hour-label (x .args .steps) _,
+      omega (arith, ap length (h .0), hour-length (x .args .steps) (from .before .least .result)),
+      ap (every isLabelByte) (u .0) ∙ hour-label (x .args .steps) _,
+      omega (arith, ap length (u .0), hour-length (x .args .steps) (until .before .least2 .result)),
     )
 
 tell-requires : tie.Need-tell-requires
@@ -64,8 +73,14 @@ tell-requires c κs = search needs
 
 returns : tie.Need-returns
 returns c =
-    let start = c .before .before .before .before .before .before .before .before .before .before .before .before .before .before in
-    next-told (start .args .steps) _ _ _ _ (start .args .s .now) (start .args .at) _ _ _ _ (c .before .before .before .before .before .before .before .before .before .before .before .before .least .ensures) (c .before .before .before .before .before .before .before .before .before .before .least2 .ensures) (c .before .before .before .before .before .before .before .before .before .before .before .hour-label .ensures .0) (c .before .before .before .before .before .before .before .before .before .hour-label2 .ensures .0) (c .before .before .step-at .ensures) (c .tell .ensures)
+    let at-step = c .before .before .before in
+    let until = labels (at-step .before) in
+    let from = until .before .before in
+    let a = start until .args in (
+      next-told (a .steps) _ _ _ _ (a .s .now) (a .at) _ _ _ _ (from .before .least .ensures) (until .before .least2 .ensures)
+          (from .hour-label .ensures .0) (until .hour-label2 .ensures .0) (at-step .step-at .ensures .0) (c .tell .ensures),
+      at-step .step-at .ensures .1,
+    )
 
 pub next-step-spec : {M : Type 1} → statement M
 next-step-spec =

@@ -1,23 +1,30 @@
--- What is left of the series from here on, and what is kept so far, say what the whole series says.
+-- What is kept after a step's power and the tokens from there on say what the whole series says.
 use borrow.Author.Needs.{needs}
-use Rattle.request_reader.proofs.series.take_series.Statement.{statement}
-use mathlib.Core.Path.{sym, _∙_}
-use Prim.Native.Nat.{_≤_}
+use mathlib.Core.Path.{refl, sym, _∙_}
 use native.Mathlib.Omega.{arith}
 use lib.ListN.{length, drop}
-use Rattle.reader.specs.Folding.{noSteps}
 use Rattle.request.specs.Tokens.{tokens}
-use Rattle.request.specs.Writing.{objectMost}
-use Rattle.request_reader.proofs.Runs.{byte-within}
-use Rattle.request_reader.proofs.SeriesReads.{Left, no-steps, some-step, last-step, one-less, one-more}
+use Rattle.request_reader.specs.Walking.{isMark}
+use Rattle.request_reader.specs.Series.{Onward}
+use Rattle.request_reader.proofs.ByteRuns.{byte-within}
+use Rattle.request_reader.proofs.StepRuns.{onward-refl, onward-on, told-on}
+use Rattle.request_reader.proofs.SeriesReads.{no-steps, not-none, between-passed, last-step}
+use Rattle.request_reader.proofs.series.take_series.Statement.{statement}
 use Rattle.request_reader.proofs.series.take_series.Tie as tie
 
 abbrev Inv-loop : tie.InvT-loop
-Inv-loop s from steps powers₀ tally₀ first at₀ powers tally at =
-    (few : length s ≤ objectMost) → Left steps s few from (record { tally = noSteps; powers = powers₀ }) at (record { tally = tally; powers = powers })
+Inv-loop s from steps powers₀ first tally₀ at₀ powers tally at =
+    Onward steps s at₀ (record { tally = tally₀; powers = powers₀ }) at (record { tally = tally; powers = powers })
 
 abbrev μ-loop : tie.MeasureT-loop
-μ-loop s from steps powers₀ tally₀ first at₀ powers tally at = length (tokens (drop at s))
+μ-loop s from steps powers₀ first tally₀ at₀ powers tally at = length (tokens (drop at s))
+
+-- back from a context to an earlier one
+abbrev looked : tie.After-byte-at Inv-loop μ-loop → tie.Start Inv-loop μ-loop
+looked c = c .before .before .before
+
+abbrev start : tie.After-tally Inv-loop μ-loop → tie.Start Inv-loop μ-loop
+start c = looked (c .before .before .before .before)
 
 past-blanks-requires : tie.Need-past-blanks-requires Inv-loop μ-loop
 past-blanks-requires c κs = search needs
@@ -30,16 +37,27 @@ is-closed-requires c κs = search needs
 
 returns : tie.Need-returns Inv-loop μ-loop
 returns c =
-    let start = c .before .before .before .before .before in
-    no-steps (start .args .steps) (start .args .s .now) (start .pre .0) (start .args .from) _ _ (c .before .before .before .past-blanks .ensures) _ (sym (c .before .before .byte-at .ensures) ∙ c .before .if1 .taken) (c .is-closed .ensures)
+    let x = looked (c .before .before) in
+    let a = x .args in
+    let ends = sym (c .before .before .byte-at .ensures) ∙ c .before .if1 .taken in
+    no-steps (a .s .now) (x .pre .0) (a .from) _ (c .before .before .before .past-blanks .ensures .0) (a .steps) _ _ ends
+    (c .is-closed .ensures)
+
+begin-requires : tie.Need-begin-requires Inv-loop μ-loop
+begin-requires c κs =
+    let x = looked (c .before .before) in
+    let p = x .pre in
+    let begins = not-none (x .args .s .now) (p .0) (x .args .from) _ (c .before .before .before .past-blanks .ensures .0) in
+    (p .0, p .1, p .2, begins (λ e. c .before .if1 .left (c .before .before .byte-at .ensures ∙ e)))
 
 loop-holds : tie.Need-loop-holds Inv-loop μ-loop
 loop-holds c =
-    let start = c .before .before .before .before in
-    λ few. some-step (start .args .steps) (start .args .s .now) few (start .args .from) _ _ (c .before .before .past-blanks .ensures) (λ e. c .if1 .left (c .before .byte-at .ensures ∙ e))
+    let a = start c .args in
+    onward-refl (a .steps) (a .s .now) _ _
 
-next-step-requires : tie.Need-next-step-requires Inv-loop μ-loop
-next-step-requires c κs = search needs
+after-mark-requires : tie.Need-after-mark-requires Inv-loop μ-loop
+unfolding isMark
+after-mark-requires c κs = (start (c .before) .pre .0, refl)
 
 past-blanks-requires-2 : tie.Need-past-blanks-requires-2 Inv-loop μ-loop
 past-blanks-requires-2 c κs = search needs
@@ -52,23 +70,40 @@ is-closed-requires-2 c κs = search needs
 
 returns-2 : tie.Need-returns-2 Inv-loop μ-loop
 returns-2 c =
-    let start = c .before .before .before .before .before .before .before .before .before .before .before .before in
-    last-step (start .args .steps) (start .args .s .now) (start .pre .0) (start .args .from) _ _ _ _ _ _ (c .before .before .before .before .before .before .before .loop .inv (start .pre .0)) (c .before .before .before .before .before .next-step .ensures) (c .before .before .before .past-blanks2 .ensures) _ (λ e. c .before .if2 .taken (c .before .before .byte-at2 .ensures ∙ e)) (c .is-closed2 .ensures)
+    let blanks = c .before .before .before in
+    let walk = blanks .before .before in
+    let begun = walk .before .before in
+    let x = start (walk .before) in
+    let a = x .args in
+    let told = told-on (a .steps) (a .s .now) _ _ _ _ _ _ (begun .begin .ensures) (walk .loop .inv) in
+    last-step (a .s .now) _ _ _ (blanks .past-blanks2 .ensures .0) (x .pre .0) _ (blanks .before .after-mark .ensures .0)
+    (λ e. c .before .if2 .taken (c .before .before .byte-at2 .ensures ∙ e)) (c .is-closed2 .ensures) (a .steps) (a .from) _ _ _
+    (begun .before .before .before .before .past-blanks .ensures .0) told
 
-add-at : tie.Need-add-at Inv-loop μ-loop
-add-at c =
-    let start = c .before .before .before .before .before .before .before .before .before .before .before in
-    omega (arith, start .pre .0, byte-within (start .args .s .now) (c .before .before .past-blanks2 .result) 44 (sym (c .before .byte-at2 .ensures) ∙ c .if2 .left) (λ e. omega arith))
+add-next-steps : tie.Need-add-next-steps Inv-loop μ-loop
+add-next-steps c =
+    let blanks = c .before .before in
+    let x = start (blanks .before .before .before) in
+    let comma = sym (c .before .byte-at2 .ensures) ∙ c .if2 .left in
+    omega (arith, x .pre .0, byte-within (x .args .s .now) (blanks .past-blanks2 .result) 44 comma (λ e. omega arith))
+
+next-steps-requires : tie.Need-next-steps-requires Inv-loop μ-loop
+next-steps-requires c κs =
+    let blanks = c .before .before .before in
+    let x = start (blanks .before .before .before) in
+    let p = x .pre in
+    let past = blanks .past-blanks2 .ensures in
+    let comma = sym (c .before .before .byte-at2 .ensures) ∙ c .before .if2 .left in
+    (p .0, p .1, p .2, between-passed (x .args .s .now) _ _ _ (past .0) (blanks .before .after-mark .ensures .1) (past .1) comma)
 
 loop-less : tie.Need-loop-less Inv-loop μ-loop
-loop-less c =
-    let start = c .before .before .before .before .before .before .before .before .before .before .before in
-    one-less (start .args .steps) (start .args .s .now) (start .pre .0) (start .args .from) _ _ _ _ _ _ (c .before .before .before .before .before .before .loop .inv (start .pre .0)) (c .before .before .before .before .next-step .ensures) (c .before .before .past-blanks2 .ensures) (sym (c .before .byte-at2 .ensures) ∙ c .if2 .left)
+loop-less c = c .before .next-steps .ensures .1
 
 loop-again : tie.Need-loop-again Inv-loop μ-loop
 loop-again c =
-    let start = c .before .before .before .before .before .before .before .before .before .before .before in
-    λ few. one-more (start .args .steps) (start .args .s .now) few (start .args .from) _ _ _ _ _ _ (c .before .before .before .before .before .before .loop .inv few) (c .before .before .before .before .next-step .ensures) (c .before .before .past-blanks2 .ensures) (sym (c .before .byte-at2 .ensures) ∙ c .if2 .left)
+    let walk = c .before .before .before .before .before .before .before in
+    let a = start (walk .before) .args in
+    onward-on (a .steps) (a .s .now) _ _ _ _ _ _ (walk .loop .inv) (c .before .next-steps .ensures .0)
 
 pub take-series-spec : {M : Type 1} → statement M
 take-series-spec =
@@ -80,12 +115,14 @@ take-series-spec =
     byte-at-requires
     is-closed-requires
     returns
+    begin-requires
     loop-holds
-    next-step-requires
+    after-mark-requires
     past-blanks-requires-2
     byte-at-requires-2
     is-closed-requires-2
     returns-2
-    add-at
+    add-next-steps
+    next-steps-requires
     loop-less
     loop-again)

@@ -6,11 +6,11 @@ use Prim.Native.Nat.{_-_}
 use lib.ListN.{length}
 use borrow.Author.Tests.{not-true, not-false}
 use Rattle.notification.specs.Forms.{isDigit}
-use Rattle.request_reader.proofs.Runs.{Passed, run-start, run-more, run-stop, run-end}
+use Rattle.request_reader.proofs.ByteRuns.{RunOn, run-start, run-more, run-stop, run-end}
 use Rattle.request_reader.proofs.step.digit_run.Tie as tie
 
 abbrev Inv-loop : tie.InvT-loop
-Inv-loop s from i₀ i = Passed isDigit refl s from i
+Inv-loop s from i₀ i = RunOn isDigit refl s from i
 
 abbrev μ-loop : tie.MeasureT-loop
 μ-loop s from i₀ i = length s - i

@@ -2,7 +2,7 @@
 use borrow.Author.Needs.{needs}
 use mathlib.Core.Path.{sym, _∙_}
 use native.Mathlib.Omega.{arith}
-use Rattle.request_reader.proofs.Runs.{byte-within, loose-unquoted, loose-found, loose-other}
+use Rattle.request_reader.proofs.ByteRuns.{byte-within, loose-unquoted, loose-found, loose-other}
 use Rattle.request_reader.proofs.step.label_end.Statement.{statement}
 use Rattle.request_reader.proofs.step.label_end.Tie as tie
 

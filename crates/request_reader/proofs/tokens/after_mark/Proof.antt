@@ -3,6 +3,7 @@ use borrow.Author.Needs.{needs}
 use mathlib.Core.Path.{sym, _∙_}
 use native.Mathlib.Omega.{arith}
 use Rattle.request_reader.proofs.Walks.{mark-inside, mark-found, mark-lost}
+use Rattle.request_reader.proofs.Passing.{mark-passed}
 use Rattle.request_reader.proofs.tokens.after_mark.Statement.{statement}
 use Rattle.request_reader.proofs.tokens.after_mark.Tie as tie
 
@@ -15,17 +16,27 @@ byte-at-requires c κs = search needs
 add-result : tie.Need-add-result
 add-result c =
     let start = c .before .before .before .before in
-    omega (arith, start .pre .0, mark-inside (start .args .s .now) (start .args .at) _ (start .args .b) (c .before .before .past-blanks .ensures) (start .pre .1) (sym (c .before .byte-at .ensures) ∙ c .if1 .taken))
+    let past = c .before .before .past-blanks .ensures .0 in
+    let stands = sym (c .before .byte-at .ensures) ∙ c .if1 .taken in
+    omega (arith, start .pre .0, mark-inside (start .args .s .now) (start .args .at) _ (start .args .b) past (start .pre .1) stands)
 
 returns : tie.Need-returns
 returns c =
     let start = c .before .before .before .before in
-    mark-found (start .args .s .now) (start .args .at) _ (start .args .b) (c .before .before .past-blanks .ensures) (start .pre .1) (sym (c .before .byte-at .ensures) ∙ c .if1 .taken)
+    let past = c .before .before .past-blanks .ensures in
+    let stands = sym (c .before .byte-at .ensures) ∙ c .if1 .taken in (
+      mark-found (start .args .s .now) (start .args .at) _ (start .args .b) (past .0) (start .pre .1) stands,
+      λ h. mark-passed (start .args .s .now) (start .args .at) _ (past .0) (past .1) (start .args .b) (start .pre .1) stands,
+    )
 
 returns-2 : tie.Need-returns-2
 returns-2 c =
     let start = c .before .before .before .before in
-    mark-lost (start .args .s .now) (start .args .at) _ (start .args .b) (c .before .before .past-blanks .ensures) (start .pre .1) (λ e. c .if1 .left (c .before .byte-at .ensures ∙ e)) (start .pre .0)
+    let past = c .before .before .past-blanks .ensures .0 in (
+      mark-lost (start .args .s .now) (start .args .at) _ (start .args .b) past (start .pre .1) (λ e. c .if1 .left (c .before .byte-at .ensures ∙ e))
+          (start .pre .0),
+      λ h. absurd (omega (arith, h, start .pre .0)),
+    )
 
 pub after-mark-spec : {M : Type 1} → statement M
 after-mark-spec =

@@ -5,6 +5,7 @@ use mathlib.Core.List.{[], _∷_}
 use Rattle.request.specs.Tokens.{is}
 use Rattle.request_reader.specs.Walking.{isMark}
 use Rattle.request_reader.proofs.Walks.{walked-on}
+use Rattle.request_reader.proofs.Passing.{opened-passed}
 use Rattle.request_reader.proofs.tokens.value_from.Statement.{statement}
 use Rattle.request_reader.proofs.tokens.value_from.Tie as tie
 
@@ -21,11 +22,16 @@ past-blanks-requires c κs = search needs
 returns : tie.Need-returns
 returns c =
     let start = c .before .before .before .before .before in
-    record {
-      mid = c .before .after-mark .result;
-      named = walked-on (is (start .args .name .now) ∷ []) (is (58 ∷ [])) [] (start .args .s .now) (start .args .at) _ _ (c .before .before .after-text .ensures) (c .before .after-mark .ensures);
-      past = c .past-blanks .ensures;
-    }
+    let text = c .before .before .after-text .ensures in
+    let mark = c .before .after-mark .ensures in
+    let past = c .past-blanks .ensures in (
+      record {
+        mid = c .before .after-mark .result;
+        named = walked-on (is (start .args .name .now) ∷ []) (is (58 ∷ [])) [] (start .args .s .now) (start .args .at) _ _ (text .0) (mark .0);
+        past = past .0;
+      },
+      opened-passed (start .args .name .now) (start .args .s .now) (start .args .at) _ _ _ (text .1) (mark .1) (past .0) (past .1),
+    )
 
 pub value-from-spec : {M : Type 1} → statement M
 value-from-spec =

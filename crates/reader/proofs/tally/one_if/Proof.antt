@@ -1,8 +1,8 @@
 -- Either answer.
 use mathlib.Core.Path.{sym}
 use native.Mathlib.Omega.{arith}
-use Rattle.reader.proofs.steps.one_if.Statement.{statement}
-use Rattle.reader.proofs.steps.one_if.Tie as tie
+use Rattle.reader.proofs.tally.one_if.Statement.{statement}
+use Rattle.reader.proofs.tally.one_if.Tie as tie
 
 returns : tie.Need-returns
 returns c = (sym (c .if1 .taken), omega arith)

@@ -27,13 +27,13 @@ use Rattle.request_reader.proofs.Values.{by-none, framed-parts, value-f
 -- ---- one byte after another
 
 module _ (p : ℕ → Bool) (none : p 0 ≡ false) (s : List ℕ) (from : ℕ) where
-  abbrev pub Passed : ℕ → Type 0
-  Passed i = (from ≤ i) × (from < i → i ≤ length s) × (every p (take (i - from) (drop from s)) ≡ true)
+  abbrev pub RunOn : ℕ → Type 0
+  RunOn i = (from ≤ i) × (from < i → i ≤ length s) × (every p (take (i - from) (drop from s)) ≡ true)
 
-  pub run-start : Passed from
+  pub run-start : RunOn from
   run-start = let e : from - from ≡ 0 = omega arith in (omega arith, λ h. absurd (omega arith), rw e)
 
-  pub run-more : (i : ℕ) → i < length s → p (getD s i 0) ≡ true → Passed i → Passed (i + 1)
+  pub run-more : (i : ℕ) → i < length s → p (getD s i 0) ≡ true → RunOn i → RunOn (i + 1)
   run-more i h e (a, b, c) =
       let n : i + 1 - from ≡ i - from + 1 = omega arith in
       let m : from + (i - from) ≡ i = omega arith in
@@ -44,10 +44,10 @@ module _ (p : ℕ → Bool) (none : p 0 ≡ false) (s : List ℕ) (from : ℕ) w
         rw (n, every-more p (drop from s) (i - from) 0 k) (and-true (every p (take (i - from) (drop from s))) (p (getD (drop from s) (i - from) 0)) c g),
       )
 
-  pub run-stop : (i : ℕ) → p (getD s i 0) ≡ false → Passed i → RunTo p s from i
+  pub run-stop : (i : ℕ) → p (getD s i 0) ≡ false → RunOn i → RunTo p s from i
   run-stop i e (a, b, c) = record { on = a; within = b; all = c; stop = e }
 
-  pub run-end : (i : ℕ) → length s ≤ i → Passed i → RunTo p s from i
+  pub run-end : (i : ℕ) → length s ≤ i → RunOn i → RunTo p s from i
   run-end i h q = run-stop i (rw (List·getD-eq-default s 0 h) none) q
 
 -- a byte that isn't 0 stands within the text
@@ -64,7 +64,7 @@ labelled t = quotedBy (every isLabelByte) t
 
 module _ (s : List ℕ) (from : ℕ) (b : isBlank (getD s from 0) ≡ false) where
   abbrev here : Past s from from
-  here = record { no-blank = b; same-tokens = refl }
+  here = record { on = omega arith; no-blank = b; same-tokens = refl }
 
   pub loose-unquoted : (getD s from 0 ≡ quote → ⊥) → length s ≤ objectMost → Walked (labelled ∷ []) s from 8193
   loose-unquoted f h =
@@ -135,7 +135,7 @@ module _ (s : List ℕ) (from end : ℕ) (b : isBlank (getD s from 0) ≡ false)
   run = take (end - from) (drop from s)
 
   abbrev there : Past s from from
-  there = record { no-blank = b; same-tokens = refl }
+  there = record { on = omega arith; no-blank = b; same-tokens = refl }
 
   run-none : isRun [] ≡ false
   run-none = refl

@@ -1,9 +1,9 @@
--- `step::run_power` meets its contract: the power that the bytes of the run and the `;` after them give.
+-- `step::digits_power` meets its contract: the power that the bytes of the run and the `;` after them give.
 use borrow.Author.Needs.{needs}
 use mathlib.Core.Path.{_∙_}
 use Rattle.request_reader.specs.Steps.{powerOf}
-use Rattle.request_reader.proofs.step.run_power.Statement.{statement}
-use Rattle.request_reader.proofs.step.run_power.Tie as tie
+use Rattle.request_reader.proofs.step.digits_power.Statement.{statement}
+use Rattle.request_reader.proofs.step.digits_power.Tie as tie
 
 digit-or-end-requires : tie.Need-digit-or-end-requires
 digit-or-end-requires c κs = search needs
@@ -27,8 +27,8 @@ returns : tie.Need-returns
 unfolding powerOf
 returns c = c .power-of .ensures ∙ rw (c .before .before .before .before .before .digit-or-end .ensures, c .before .before .before .before .digit-or-end2 .ensures, c .before .before .before .digit-or-end3 .ensures, c .before .before .digit-or-end4 .ensures, c .before .digit-or-end5 .ensures)
 
-pub run-power-spec : {M : Type 1} → statement M
-run-power-spec =
+pub digits-power-spec : {M : Type 1} → statement M
+digits-power-spec =
     tie.close
     (tie.spec
     digit-or-end-requires
