@@ -9,7 +9,8 @@ sources=()
 for source in crates/*/src/*.rt; do
     case $source in
         crates/tables/* | crates/judging/* | crates/recording/*) ;;
-        crates/reader/src/tally.rt | crates/request/src/labels.rt | crates/writer/src/placing.rt | crates/writer/src/step_line.rt) ;;
+        crates/reader/src/tally.rt | crates/reader/src/marks.rt | crates/request/src/labels.rt) ;;
+        crates/writer/src/placing.rt | crates/writer/src/step_line.rt) ;;
         *) if [[ ! -e ${source%/*}/main.rt ]]; then sources+=("$source"); fi ;;
     esac
 done
