@@ -10,7 +10,7 @@ use lib.ListN.{length, getD}
 use lib.Seq.{ext-getD}
 use borrow.Author.Tests.{lt-ltb, le-ltb, leb-true, eqb-true}
 use Rattle.calendar.specs.Dates.{dayCount, date, number, valid, monthLength, leapDays, beforeYear, beforeMonth}
-use Rattle.calendar.specs.Texts.{tens, ones, digit, pairOf, dateText, textOf, readDate, isDate, dayOf}
+use Rattle.calendar.specs.Texts.{tens, ones, digit, pairOf, dateText, textOf, readDate, dayAt, dayOf}
 use Rattle.calendar.specs.declared.dates.Date.{Date}
 use Rattle.calendar.specs.declared.texts.Day.the-variants.{Number, NoDay}
 use Rattle.lists.proofs.Tests.{true-of, both-true}
@@ -18,7 +18,7 @@ use Rattle.lists.proofs.Below.{below, within}
 use Rattle.calendar.proofs.Counting.{There, leaps, date-number}
 use Rattle.calendar.proofs.Decoding.{number-date}
 use Rattle.calendar.proofs.Numbering.{number-small, valid-there, there-valid}
-use Rattle.calendar.proofs.Reading.{is-day}
+use Rattle.calendar.proofs.Reading.{eight-read}
 
 -- ---- two digits
 
@@ -54,7 +54,7 @@ at-most-31 : (l m : ℕ) → l < 2 → m < 13 → monthLength l m ≤ 31
 unfolding short monthLength
 at-most-31 l m hl hm = leb-true (monthLength l m) 31 (true-of (short l m) (within short 2 13 tt l m hl hm))
 
-twenty : 20 ≡ pairOf 50 48
+twenty : pairOf 50 48 ≡ 20
 unfolding pairOf
 twenty = refl
 
@@ -62,8 +62,8 @@ date-text-read : (x : Date) → There x → dayOf (dateText x) ≡ Number (numbe
 date-text-read x h =
     let s = dateText x in
     let b : x .day ≤ 31 = omega (arith, at-most-31 (leapDays (x .year)) (x .month) (leaps (x .year)) (omega arith)) in
-    let r : x ≡ readDate s = rw (pair-digits (x .year) (omega arith), pair-digits (x .month) (omega arith), pair-digits (x .day) (omega arith)) in
-    sym (is-day s 20 x (valid x) refl twenty refl r refl (number x) (there-valid x h) refl)
+    let r : readDate s ≡ x = rw (pair-digits (x .year) (omega arith), pair-digits (x .month) (omega arith), pair-digits (x .day) (omega arith)) in
+    sym (eight-read s refl) ∙ (ap (dayAt (pairOf 50 48)) r ∙ rw (twenty, there-valid x h))
 
 -- the text of each day reads back as that day
 pub text-read : (n : ℕ) → n < dayCount → dayOf (textOf n) ≡ Number n
@@ -100,23 +100,24 @@ date-text s e c h =
     let d = digits-pair (getD s 6 0) (getD s 7 0) (x .day) refl (omega arith) in
     eight s e ∙ (cc)
 
-read-by : (s : List ℕ) (n : ℕ) (v : Bool) → isDate s ≡ v → cond v (Number (number (readDate s))) NoDay ≡ Number n → (n < dayCount) × (s ≡ textOf n)
+read-by : (s : List ℕ) (n : ℕ) (u v : Bool) → eqb (length s) 8 ≡ u → (eqb (pairOf (getD s 0 0) (getD s 1 0)) 20 && valid (readDate s)) ≡ v
+    → cond u (cond v (Number (number (readDate s))) NoDay) NoDay ≡ Number n → (n < dayCount) × (s ≡ textOf n)
 unfolding textOf
-read-by s n false e q = let z : _≡_ {A = ℕ} 0 1 = cc in absurd (omega arith)
-read-by s n true e q =
+read-by s n false v d e q = let z : _≡_ {A = ℕ} 0 1 = cc in absurd (omega arith)
+read-by s n true false d e q = let z : _≡_ {A = ℕ} 0 1 = cc in absurd (omega arith)
+read-by s n true true d e q =
     let x = readDate s in
     let k : number x ≡ n = cc in
-    let p = both-true (eqb (length s) 8) (eqb (pairOf (getD s 0 0) (getD s 1 0)) 20 && valid x) e in
-    let r = both-true (eqb (pairOf (getD s 0 0) (getD s 1 0)) 20) (valid x) (p .1) in
+    let r = both-true (eqb (pairOf (getD s 0 0) (getD s 1 0)) 20) (valid x) e in
     let h = valid-there x (r .1) in
     let l : n < dayCount = omega (arith, number-small x h) in
-    let t = date-text s (eqb-true (length s) 8 (p .0)) (eqb-true (pairOf (getD s 0 0) (getD s 1 0)) 20 (r .0)) h in
+    let t = date-text s (eqb-true (length s) 8 d) (eqb-true (pairOf (getD s 0 0) (getD s 1 0)) 20 (r .0)) h in
     (l, rw (lt-ltb n dayCount l) (t ∙ ap dateText (sym (date-number x h) ∙ ap date k)))
 
 -- each text that is read is the text of the day answered
 pub read-text : (s : List ℕ) (n : ℕ) → dayOf s ≡ Number n → (n < dayCount) × (s ≡ textOf n)
 unfolding dayOf
-read-text s n e = read-by s n (isDate s) refl e
+read-text s n e = read-by s n _ _ refl refl e
 
 -- both ways in one
 pub two-ways : (s : List ℕ) (n : ℕ) → (dayOf s ≡ Number n) ↔ ((n < dayCount) × (s ≡ textOf n))

@@ -57,11 +57,10 @@ readDate s =
       day = pairOf (getD s 6 0) (getD s 7 0);
     }
 
--- "eight digits .. 20000101 to 20991231": the century 20 and a date that there is
-abbrev pub isDate : List ℕ → Bool
-isDate s =
-    eqb (length s) 8 && (eqb (pairOf (getD s 0 0) (getD s 1 0)) century && valid (readDate s))
+-- "20000101 to 20991231": the day of a date in a century, or that there is none such
+abbrev pub dayAt : ℕ → Date → Day
+dayAt c x = cond (eqb c century && valid x) (Number (number x)) NoDay
 
--- "Its day number": the day that a text stands for, or that it stands for none
+-- "A date is eight digits", "Its day number": the day that a text stands for, or that it stands for none
 unfoldable pub dayOf : List ℕ → Day
-dayOf s = cond (isDate s) (Number (number (readDate s))) NoDay
+dayOf s = cond (eqb (length s) 8) (dayAt (pairOf (getD s 0 0) (getD s 1 0)) (readDate s)) NoDay

@@ -3,7 +3,7 @@
 ghost use mathlib.Core.Bool.{true};
 ghost use mathlib.Core.Path.{_≡_};
 ghost use Prim.Native.Nat.{_+_, _<_};
-ghost use Rattle.calendar.specs.Dates.{yearCount, dayCount, monthCount, leap, leapDays, beforeYear, beforeMonth};
+ghost use Rattle.calendar.specs.Dates.{yearCount, dayCount, monthCount, leapDays, beforeYear, beforeMonth};
 ghost use Rattle.calendar.specs.Dates.{monthLength, InMonth, number, date, valid};
 
 // The days of the calendar, 20000101 to 20991231.
@@ -12,49 +12,11 @@ pub const DAYS: u32 = 36525;
 // The years of the calendar.
 const YEARS: u32 = 100;
 
-// The first of them.
-const FIRST_YEAR: u32 = 2000;
-
 // Every fourth of these years is a leap year: so many days in four years.
 const FOUR_YEARS: u32 = 1461;
 
 // The months of a year.
 const MONTHS: u32 = 12;
-
-// The starts of months that the table holds for a year.
-const STARTS: u32 = 14;
-
-// The days before each month, from 0 (no month) to 13 (the next year), of a year of 365 days and of one of 366.
-const MONTH_STARTS: [u32; 28] = [
-    0,
-    0,
-    31,
-    59,
-    90,
-    120,
-    151,
-    181,
-    212,
-    243,
-    273,
-    304,
-    334,
-    365,
-    0,
-    0,
-    31,
-    60,
-    91,
-    121,
-    152,
-    182,
-    213,
-    244,
-    274,
-    305,
-    335,
-    366,
-];
 
 // A date: the year from 0 for 2000, the month and the day from 1.
 pub struct Date {
@@ -63,27 +25,24 @@ pub struct Date {
     pub day: u32,
 }
 
-// Whether a year has a 29 February.
-fn is_leap(year: u32) -> bool
-    ensures { λ r. ⌜ r ≡ leap year ⌝ }
-{
-    (year % 4 == 0) & (!(year % 100 == 0) | (year % 400 == 0))
-}
-
-// The days that a year has above 365.
+// The days that a year has above 365: of these years every fourth, 2000 too, is a leap year.
 fn leap_days(year: u32) -> u32
     requires { ⌜ year < yearCount ⌝ }
     ensures { λ r. ⌜ (r ≡ leapDays year) × (r < 2) ⌝ }
 {
-    if is_leap(FIRST_YEAR + year) { 1 } else { 0 }
+    if year % 4 == 0 { 1 } else { 0 }
 }
 
-// The days of a year before a month.
+// The days of a year before a month, from 0 (no month) to 13 (the next year): from March on, five months have 153 days.
 fn before_month(leaps: u32, month: u32) -> u32
     requires { ⌜ (leaps < 2) × (month < monthCount + 2) ⌝ }
     ensures { λ r. ⌜ r ≡ beforeMonth leaps month ⌝ }
 {
-    MONTH_STARTS[(leaps * STARTS + month) as usize]
+    if month < 3 {
+        31 * (month / 2)
+    } else {
+        59 + leaps + (153 * month - 457) / 5
+    }
 }
 
 // The days before a year.

@@ -1,7 +1,6 @@
 // The eight digits of a date, from a day and back.
 ghost use mathlib.Core.Path.{_≡_};
-ghost use lib.ListN.{length};
-ghost use Rattle.calendar.specs.Texts.{digitOf, dateText, textOf, pairOf, readDate, dayOf};
+ghost use Rattle.calendar.specs.Texts.{digitOf, dateText, textOf, pairOf, dayAt, dayOf};
 use crate::dates::DAYS;
 use crate::dates::Date;
 use crate::dates::date_of;
@@ -70,15 +69,18 @@ pub fn pair(a: u8, b: u8) -> u32
     }
 }
 
-// What the last six of eight bytes say: year, month and day.
-fn read_date(s: &[u8]) -> Date
-    requires { ⌜ length (now s) ≡ 8 ⌝ }
-    ensures { λ r. ⌜ r ≡ readDate (now (s .entry)) ⌝ }
+// The day of a date in a century, where there is such a day.
+pub fn day_at(century: u32, year: u32, month: u32, day: u32) -> Day
+    ensures { λ r. ⌜ r ≡ dayAt century (record { year = year; month = month; day = day }) ⌝ }
 {
-    Date {
-        year: pair(s[2], s[3]),
-        month: pair(s[4], s[5]),
-        day: pair(s[6], s[7]),
+    if century != CENTURY {
+        return Day::NoDay;
+    }
+    let x = Date { year, month, day };
+    if is_valid(x) {
+        Day::Number(number_of(x))
+    } else {
+        Day::NoDay
     }
 }
 
@@ -89,13 +91,10 @@ pub fn day_of(s: &[u8]) -> Day
     if s.len() != DIGITS {
         return Day::NoDay;
     }
-    if pair(s[0], s[1]) != CENTURY {
-        return Day::NoDay;
-    }
-    let x = read_date(s);
-    if is_valid(x) {
-        Day::Number(number_of(x))
-    } else {
-        Day::NoDay
-    }
+    day_at(
+        pair(s[0], s[1]),
+        pair(s[2], s[3]),
+        pair(s[4], s[5]),
+        pair(s[6], s[7]),
+    )
 }

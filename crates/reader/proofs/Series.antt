@@ -22,30 +22,30 @@ use Rattle.notification.specs.Reading.{accepted, refused}
 use Rattle.notification.specs.declared.Key.{Key}
 use Rattle.notification.specs.declared.Reading.{Reading}
 use Rattle.notification.proofs.Places.{places-filled}
-use Rattle.reader.specs.Folding.{Taken, isPass, oneMore, counted, faulted, credited, judged, stepTaken, takeAll, noSteps, judgement}
+use Rattle.reader.specs.Folding.{Taken, isPass, oneMore, counted, faulted, credited, judged, stepTaken, takeAll, noSteps, outcomeOf, judgement}
 use Rattle.reader.specs.declared.tally.Tally.{Tally}
 use Rattle.reader.specs.declared.tally.LinePower.{LinePower}
 use Rattle.reader.specs.declared.tally.LinePower.the-variants.{Gives, NoLabels, NoPower}
 
 -- ---- what the steps come to
 
-module _ (key : Key) (steps : ℕ) (t : Tally) (ps : List ℕ) where
-  pub judged-lines : (t .lines ≡ steps → ⊥) → refused (input Lines) ≡ judgement key steps t ps
-  unfolding judgement
-  judged-lines h = rw (ne-eqb (t .lines) steps h)
+module _ (steps : ℕ) (t : Tally) where
+  pub outcome-lines : (t .lines ≡ steps → ⊥) → No (input Lines) ≡ outcomeOf steps t
+  unfolding outcomeOf
+  outcome-lines h = rw (ne-eqb (t .lines) steps h)
 
   module _ (h : t .lines ≡ steps) where
-    pub judged-fault : (r : Refusal) → t .verdict ≡ No r → refused r ≡ judgement key steps t ps
-    unfolding judgement
-    judged-fault r v = rw (eq-eqb (t .lines) steps h, v)
+    pub outcome-fault : (r : Refusal) → t .verdict ≡ No r → No r ≡ outcomeOf steps t
+    unfolding outcomeOf
+    outcome-fault r v = rw (eq-eqb (t .lines) steps h, v)
 
-    pub judged-passed : t .verdict ≡ Pass → t .any ≡ true → accepted (record { key = key; steps = steps; powers = ps }) ≡ judgement key steps t ps
-    unfolding judgement
-    judged-passed v a = rw (eq-eqb (t .lines) steps h, v, a)
+    pub outcome-passed : t .verdict ≡ Pass → t .any ≡ true → Pass ≡ outcomeOf steps t
+    unfolding outcomeOf
+    outcome-passed v a = rw (eq-eqb (t .lines) steps h, v, a)
 
-    pub judged-zeros : t .verdict ≡ Pass → t .any ≡ false → refused (input Zeros) ≡ judgement key steps t ps
-    unfolding judgement
-    judged-zeros v a = rw (eq-eqb (t .lines) steps h, v, a)
+    pub outcome-zeros : t .verdict ≡ Pass → t .any ≡ false → No (input Zeros) ≡ outcomeOf steps t
+    unfolding outcomeOf
+    outcome-zeros v a = rw (eq-eqb (t .lines) steps h, v, a)
 
 -- ---- whether a power is not 0
 
@@ -220,19 +220,20 @@ module _ {A : Type 0} (say : ℕ → A → LinePower) (first steps : ℕ) where
       all-kept = kept start xs refl (omega arith) few
 
       by-verdict : (v : Verdict) → verdictFrom 0 xs ≡ v → judgement key steps (end .tally) (end .powers) ≡ told key xs
-      by-verdict (No r) e =
-          sym (judged-fault key steps (end .tally) (end .powers) count-same r (all-kept .its-verdict ∙ e)) ∙ rw (eq-eqb (length xs) steps n, e)
+      unfolding judgement
+      by-verdict (No r) e = rw (← outcome-fault steps (end .tally) count-same r (all-kept .its-verdict ∙ e), eq-eqb (length xs) steps n, e)
       by-verdict Pass e =
           let v = all-kept .its-verdict ∙ e in
           let a = all-kept .its-any e in
           let p : end .powers ≡ inPlaces (powersFrom 0 xs) = all-kept .its-powers e ∙ sets-places (powersFrom 0 xs) (omega (arith, powers-length 0 xs)) in
           by-test (allZero (powersFrom 0 xs))
-          (λ z. sym (judged-zeros key steps (end .tally) (end .powers) count-same v (a ∙ ap not z)) ∙ rw (eq-eqb (length xs) steps n, e, z))
-          (λ z. sym (judged-passed key steps (end .tally) (end .powers) count-same v (a ∙ ap not z)) ∙ rw (eq-eqb (length xs) steps n, e, z, p))
+          (λ z. rw (← outcome-zeros steps (end .tally) count-same v (a ∙ ap not z), eq-eqb (length xs) steps n, e, z))
+          (λ z. rw (← outcome-passed steps (end .tally) count-same v (a ∙ ap not z), eq-eqb (length xs) steps n, e, z, p))
 
     pub judged-told : judgement key steps (end .tally) (end .powers) ≡ told key xs
+    unfolding judgement
     judged-told =
         by-test (eqb (length xs) steps)
         (λ a. by-verdict (eqb-true (length xs) steps a) (verdictFrom 0 xs) refl)
         (λ a. let f = eqb-false (length xs) steps a in
-        sym (judged-lines key steps (end .tally) (end .powers) (λ (e : end .tally .lines ≡ steps). f (omega (arith, count-end)))) ∙ rw a)
+        rw (← outcome-lines steps (end .tally) (λ (e : end .tally .lines ≡ steps). f (omega (arith, count-end))), a))

@@ -84,12 +84,14 @@ abbrev pub noSteps : Tally
 noSteps = record { lines = 0; verdict = Pass; any = false }
 
 -- what the steps come to: their number, the first fault, whether a power is not 0
+unfoldable pub outcomeOf : ℕ → Tally → Verdict
+outcomeOf steps t =
+    cond (not (eqb (t .lines) steps)) (No (input Lines))
+    (decide (t .verdict) (cond (t .any) Pass (No (input Zeros))) No)
+
+-- the notification that the steps come to, or their refusal
 unfoldable pub judgement : Key → ℕ → Tally → List ℕ → Reading
-judgement key steps t powers =
-    cond (not (eqb (t .lines) steps)) (refused (input Lines))
-    (decide (t .verdict)
-    (cond (t .any) (accepted (record { key = key; steps = steps; powers = powers })) (refused (input Zeros)))
-    refused)
+judgement key steps t powers = decide (outcomeOf steps t) (accepted (record { key = key; steps = steps; powers = powers })) refused
 
 -- WHAT IS KEPT FROM LINE TO LINE OF A FILE
 

@@ -3,7 +3,7 @@ ghost use mathlib.Core.Bool.{true};
 ghost use mathlib.Core.Path.{_≡_};
 ghost use Rattle.notification.specs.Reading.{keyIn, linesIn, isBody, refused, readFile};
 ghost use Rattle.reader.specs.Parts.{isKey};
-ghost use Rattle.reader.specs.Folding.{judgement, withPowers, concluded, linesRead};
+ghost use Rattle.reader.specs.Folding.{outcomeOf, judgement, withPowers, concluded, linesRead};
 use crate::keys::name_key;
 use crate::lines::FileTally;
 use crate::lines::take_lines;
@@ -51,24 +51,37 @@ fn is_body(body: &[u8]) -> bool
 }
 
 // What the lines come to: their number, the first fault, whether a power isn't 0.
-pub fn judge(key: Key, steps: u32, t: Tally, powers: [u16; 50]) -> Reading
-    ensures { λ r. ⌜ r ≡ judgement key steps t powers ⌝ }
+pub fn outcome(steps: u32, t: Tally) -> Verdict
+    ensures { λ r. ⌜ r ≡ outcomeOf steps t ⌝ }
 {
     if t.lines != steps {
-        return refuse(Refusal::Input(InputRefusal::Lines, 0));
+        return Verdict::No(Refusal::Input(InputRefusal::Lines, 0));
     }
     let verdict = t.verdict;
     match verdict {
-        Verdict::No(r) => refuse(r),
+        Verdict::No(r) => Verdict::No(r),
         Verdict::Pass => {
             if t.any {
-                let notification = Notification { key, steps, powers };
-                Reading {
-                    verdict: Verdict::Pass,
-                    notification,
-                }
+                Verdict::Pass
             } else {
-                refuse(Refusal::Input(InputRefusal::Zeros, 0))
+                Verdict::No(Refusal::Input(InputRefusal::Zeros, 0))
+            }
+        }
+    }
+}
+
+// The notification that the lines come to, or their refusal.
+fn judge(key: Key, steps: u32, t: Tally, powers: [u16; 50]) -> Reading
+    ensures { λ r. ⌜ r ≡ judgement key steps t powers ⌝ }
+{
+    let verdict = outcome(steps, t);
+    match verdict {
+        Verdict::No(r) => refuse(r),
+        Verdict::Pass => {
+            let notification = Notification { key, steps, powers };
+            Reading {
+                verdict: Verdict::Pass,
+                notification,
             }
         }
     }

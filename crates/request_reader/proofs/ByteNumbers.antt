@@ -95,19 +95,19 @@ module _ (s t : List ℕ) (p q n : ℕ) (h : p + n ≤ length s) (room : q + n �
       (λ w. true-false (same (part (p + k) m s) (part (q + k) m t)) (inner-same k m g (alike-same s t p q n w)) e)
       (λ w. sym w)
 
-  -- the first m bytes and the last m
-  pub two-parts : (m a b : ℕ) → m ≤ n → n ≤ m + m → a ≡ p + (n - m) → b ≡ q + (n - m)
-      → (same (part p m s) (part q m t) && same (part a m s) (part b m t)) ≡ same (part p n s) (part q n t)
-  two-parts m a b g o e f =
+  -- the first m bytes and the last w
+  pub two-parts : (m w a b : ℕ) → m ≤ n → w ≤ n → n ≤ m + w → a ≡ p + (n - w) → b ≡ q + (n - w)
+      → (same (part p m s) (part q m t) && same (part a w s) (part b w t)) ≡ same (part p n s) (part q n t)
+  two-parts m w a b g l o e f =
       let c = same (part p m s) (part q m t) in
-      let d = same (part (p + (n - m)) m s) (part (q + (n - m)) m t) in
-      let i : n - m + m ≡ n = omega arith in
+      let d = same (part (p + (n - w)) w s) (part (q + (n - w)) w t) in
+      let i : n - w + w ≡ n = omega arith in
       rw (e, f) (same-by s t p q n h room (c && d)
-      (λ w. let u = alike-same s t p q m (and-left c d w) in
-      let v = alike-same s t (p + (n - m)) (q + (n - m)) m (and-right c d w) in
-      rw i at (alike-join s t p q (n - m) m m (omega arith) u v))
-      (λ w. let u = same-alike s t p q m (omega arith) (omega arith) (alike-fewer s t p q m n g w) in
-      and-true c d u (inner-same (n - m) m (omega arith) w)))
+      (λ x. let u = alike-same s t p q m (and-left c d x) in
+      let v = alike-same s t (p + (n - w)) (q + (n - w)) w (and-right c d x) in
+      rw i at (alike-join s t p q (n - w) m w (omega arith) u v))
+      (λ x. let u = same-alike s t p q m (omega arith) (omega arith) (alike-fewer s t p q m n g x) in
+      and-true c d u (inner-same (n - w) w (omega arith) x)))
 
 -- ---- numbers
 
@@ -169,28 +169,38 @@ module _ (s t : List ℕ) (bytes : Bytes s) (others : Bytes t) where
         (λ e. eight-alike (eqb-true (eightAt s p) (eightAt t q) e))
         (λ a. eq-eqb (eightAt s p) (eightAt t q) (alike-eight a))
 
--- ---- 16 to 32 bytes by four numbers
+-- ---- 16 bytes and more by three numbers, and by four
 
 and-assoc : (a b c d : Bool) → (((a && b) && c) && d) ≡ ((a && b) && (c && d))
 and-assoc true true c d = refl
 and-assoc true false c d = refl
 and-assoc false b c d = refl
 
-pub four-parts : (s t : List ℕ) (p q n : ℕ) → 16 ≤ n → n ≤ 32 → p + n ≤ length s → q + n ≤ length t → (a b c d : Bool)
-    → a ≡ same (part p 8 s) (part q 8 t) → b ≡ same (part (p + 8) 8 s) (part (q + 8) 8 t)
-    → c ≡ same (part (p + n - 16) 8 s) (part (q + n - 16) 8 t) → d ≡ same (part (p + n - 8) 8 s) (part (q + n - 8) 8 t)
-    → (((a && b) && c) && d) ≡ same (part p n s) (part q n t)
-four-parts s t p q n g h k l a b c d ea eb ec ed =
-    let first = two-parts s t p q 16 (omega arith) (omega arith) 8 (p + 8) (q + 8) (omega arith) (omega arith) refl refl in
-    let i = p + n - 16 in
-    let j = q + n - 16 in
-    let last =
-    two-parts s t i j 16 (omega arith) (omega arith) 8 (p + n - 8) (q + n - 8) (omega arith) (omega arith) (from-end p) (from-end q) in
-    and-assoc a b c d
-    ∙ rw (ea, eb, ec, ed, first, last) (two-parts s t p q n k l 16 i j g (omega arith) (omega arith) (omega arith))
-  where
-    from-end : (i : ℕ) → i + n - 8 ≡ i + n - 16 + (16 - 8)
-    from-end i = omega arith
+module _ (s t : List ℕ) where
+  sixteen : (p q a b : ℕ) → p + 16 ≤ length s → q + 16 ≤ length t → a ≡ p + 8 → b ≡ q + 8
+      → (same (part p 8 s) (part q 8 t) && same (part a 8 s) (part b 8 t)) ≡ same (part p 16 s) (part q 16 t)
+  sixteen p q a b k l e f = two-parts s t p q 16 k l 8 8 a b (omega arith) (omega arith) (omega arith) e f
+
+  module _ (p q n : ℕ) (g : 16 ≤ n) where
+    pub three-parts : n ≤ 24 → p + n ≤ length s → q + n ≤ length t → (a b c : Bool)
+        → a ≡ same (part p 8 s) (part q 8 t) → b ≡ same (part (p + 8) 8 s) (part (q + 8) 8 t)
+        → c ≡ same (part (p + n - 8) 8 s) (part (q + n - 8) 8 t)
+        → ((a && b) && c) ≡ same (part p n s) (part q n t)
+    three-parts h k l a b c ea eb ec =
+        rw (ea, eb, ec, sixteen p q (p + 8) (q + 8) (omega arith) (omega arith) refl refl)
+        (two-parts s t p q n k l 16 8 (p + n - 8) (q + n - 8) g (omega arith) (omega arith) (omega arith) (omega arith))
+
+    pub four-parts : n ≤ 32 → p + n ≤ length s → q + n ≤ length t → (a b c d : Bool)
+        → a ≡ same (part p 8 s) (part q 8 t) → b ≡ same (part (p + 8) 8 s) (part (q + 8) 8 t)
+        → c ≡ same (part (p + n - 16) 8 s) (part (q + n - 16) 8 t) → d ≡ same (part (p + n - 8) 8 s) (part (q + n - 8) 8 t)
+        → (((a && b) && c) && d) ≡ same (part p n s) (part q n t)
+    four-parts h k l a b c d ea eb ec ed =
+        let i = p + n - 16 in
+        let j = q + n - 16 in
+        let first = sixteen p q (p + 8) (q + 8) (omega arith) (omega arith) refl refl in
+        let last = sixteen i j (p + n - 8) (q + n - 8) (omega arith) (omega arith) (omega arith) (omega arith) in
+        and-assoc a b c d
+        ∙ rw (ea, eb, ec, ed, first, last) (two-parts s t p q n k l 16 16 i j g g (omega arith) (omega arith) (omega arith))
 
 -- ---- a whole text against a part as long
 
@@ -206,7 +216,7 @@ module _ (s text : List ℕ) (at : ℕ) (h : at + length text ≤ length s) wher
 
   pub text-two : (m : ℕ) → m ≤ n → n ≤ m + m
       → (same (part at m s) (part 0 m text) && same (part (at + n - m) m s) (part (n - m) m text)) ≡ same (part at n s) text
-  text-two m g o = two-parts s text at 0 n h room m (at + n - m) (n - m) g o (omega arith) (omega arith) ∙ against-all
+  text-two m g o = two-parts s text at 0 n h room m m (at + n - m) (n - m) g g o (omega arith) (omega arith) ∙ against-all
 
   module _ (i m : ℕ) where
     from-none : 0 + i ≡ i

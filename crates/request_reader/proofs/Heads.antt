@@ -2,7 +2,7 @@
 use mathlib.Core.Path.{_≡_, sym, ap, subst, _∙_}
 use mathlib.Core.Bool.{Bool, true, false, _&&_}
 use mathlib.Core.List.{List, [], _∷_, _++_}
-use Prim.Native.Nat.{ℕ, _+_, _≤_}
+use Prim.Native.Nat.{ℕ, _+_, _<_, _≤_}
 use native.Mathlib.Omega.{arith}
 use lib.Dec.{leb, ltb, eqb}
 use lib.ListN.{length, getD, drop}
@@ -11,17 +11,25 @@ use borrow.Author.Tests.{ltb-true, ltb-false, le-leb, leb-true, eqb-true, eq-eqb
 use Rattle.lists.specs.Searches.{every}
 use Rattle.lists.proofs.Tests.{by-test, true-false, and-left}
 use Rattle.notification.specs.Forms.{isCode, isCategory, sixBytes}
+use Rattle.reader.specs.Walking.{startsWith}
 use Rattle.request.specs.Tokens.{quoted, inside, tokens, is, quotedBy}
 use Rattle.request.specs.Objects.{cederName, acquirerName, originName, categoryName, dayName, submittedName}
-use Rattle.request.specs.Objects.{statusName, created, seriesName}
 use Rattle.request.specs.Moments.{momentIn, isMomentText, isDayText}
 use Rattle.request.specs.declared.Moment.{Moment}
+use Rattle.request.specs.Writing.{objectMost}
 use Rattle.request.proofs.MomentTexts.{in-range, moment-back}
 use Rattle.request.proofs.Unquoted.{moment-text-unquoted}
-use Rattle.request_reader.specs.Walking.{starts, Walked, Membered, isPlain, firstToken, memberTests}
-use Rattle.request_reader.specs.Heads.{isTimely, PartiesAt, TermsAt, beginTests}
-use Rattle.request_reader.proofs.Walks.{nowhere, walked-on}
+use Rattle.request_reader.specs.Walking.{starts, Past, Walked, Valued, isPlain, firstToken, memberTests}
+use Rattle.request_reader.specs.Heads.{isTimely, PartiesAt, TermsAt}
+use Rattle.request_reader.proofs.Walks.{quoted-is, text-found, text-lost, nowhere, walked-on, walked-nowhere}
 use Rattle.request.proofs.Fits.{quoted-back}
+
+-- ---- a member
+
+-- a member of a quoted value of a form stands at a place, and what was read is by its value
+pub record Membered {A : Type 0} (name : List ℕ) (form : List ℕ → Bool) (value : List ℕ → A) (s : List ℕ) (at next : ℕ) (read : A) : Type 0 where
+  pub walked : Walked (memberTests name (quotedBy form)) s at next
+  pub its-value : next ≤ length s → read ≡ value (inside (getD (tokens (drop at s)) 2 []))
 
 -- ---- one after another
 
@@ -47,6 +55,44 @@ module _ {A : Type 0} (ps : List (List ℕ → Bool)) (name : List ℕ) (form : 
   then-value h =
       m .its-value h
       ∙ ap (λ (t : List ℕ). value (inside t)) (ap (λ (ts : List (List ℕ)). getD ts 2 []) (w .found (then-within h) .1) ∙ getD-drop (length ps) (tokens (drop at s)) 2 [])
+
+-- a member by its name and what stands after it
+module _ {A : Type 0} (name : List ℕ) (form : List ℕ → Bool) (value : List ℕ → A) (s : List ℕ) (at : ℕ) where
+  name-valued : (named next : ℕ) (read : A) → Walked (is (quoted name) ∷ []) s at named → Valued form value s named next read
+      → Membered (quoted name) form value s at next read
+  name-valued named next read w v =
+      let rest : List (List ℕ → Bool) = quotedBy form ∷ is (44 ∷ []) ∷ [] in
+      let ts = tokens (drop at s) in
+      record {
+        walked = walked-on (is (quoted name) ∷ []) (is (58 ∷ [])) rest s at named next w (v .walked);
+        its-value = λ h.
+            let i = walked-within (is (58 ∷ [])) rest s named next (v .walked) h in
+            v .its-value h
+            ∙ ap (λ (t : List ℕ). value (inside t)) (ap (λ (x : List (List ℕ)). getD x 1 []) (w .found i .1) ∙ getD-drop 1 ts 1 []);
+      }
+
+  -- past the end stands none
+  pub member-nowhere : (next : ℕ) (read : A) → length s < at → length s < next → Membered (quoted name) form value s at next read
+  member-nowhere next read h g =
+      record {
+        walked = walked-nowhere (is (quoted name)) (is (58 ∷ []) ∷ quotedBy form ∷ is (44 ∷ []) ∷ []) s at next h g;
+        its-value = λ i. absurd (omega arith);
+      }
+
+  module _ (from : ℕ) (p : Past s at from) (q : every isPlain name ≡ true) where
+    pub member-named : (next : ℕ) (read : A) → startsWith (quoted name) (drop from s) ≡ true
+        → Valued form value s (from + length (quoted name)) next read → Membered (quoted name) form value s at next read
+    member-named next read e v =
+        name-valued (from + length (quoted name)) next read (text-found s at from (quoted name) p (quoted-is name q) e) v
+
+    pub member-unnamed : (next : ℕ) (read : A) → startsWith (quoted name) (drop from s) ≡ false → length s ≤ objectMost → length s < next
+        → Membered (quoted name) form value s at next read
+    member-unnamed next read e h g =
+        name-valued 8193 next read (text-lost s at from (quoted name) p (quoted-is name q) e h)
+        (record {
+          walked = walked-nowhere (is (58 ∷ [])) (quotedBy form ∷ is (44 ∷ []) ∷ []) s 8193 next (omega arith) g;
+          its-value = λ i. absurd (omega arith);
+        })
 
 -- a form by another that tests the same
 pub membered-as : {A : Type 0} (name : List ℕ) (form other : List ℕ → Bool) (value : List ℕ → A) (s : List ℕ) (at next : ℕ) (read : A)
@@ -123,6 +169,17 @@ parties-joined s a b c d ceder acquirer origin w1 m1 m2 m3 =
       its-origin = λ h. then-value p3 (quoted originName) isCode (λ t. t) s 0 c d origin w3 m3 h;
     }
 
+-- where they don't stand, nothing is said of what was read
+pub parties-unread : (s : List ℕ) (next : ℕ) (a b c ceder acquirer origin : List ℕ) → length s < next → PartiesAt s next a b c
+    → PartiesAt s next ceder acquirer origin
+parties-unread s next a b c ceder acquirer origin h p =
+    record {
+      walked = p .walked;
+      its-ceder = λ i. absurd (omega arith);
+      its-acquirer = λ i. absurd (omega arith);
+      its-origin = λ i. absurd (omega arith);
+    }
+
 -- the category and the two dates
 pub terms-joined : (s : List ℕ) (at b c d : ℕ) (category : List ℕ) (day submitted : Moment)
     → Membered (quoted categoryName) isCategory sixBytes s at b category → Membered (quoted dayName) isDayText momentIn s b c day
@@ -142,13 +199,13 @@ terms-joined s at b c d category day submitted m1 m2 m3 =
       its-moment = λ h. then-value p2 (quoted submittedName) isMomentText momentIn s at c d submitted w2 m3 h;
     }
 
--- the status and the beginning of the steps, token by token
-pub begin-joined : (s : List ℕ) (at a b c d e f g : ℕ) → Walked (is (quoted statusName) ∷ []) s at a → Walked (is (58 ∷ []) ∷ []) s a b
-    → Walked (is (quoted created) ∷ []) s b c → Walked (is (44 ∷ []) ∷ []) s c d → Walked (is (quoted seriesName) ∷ []) s d e
-    → Walked (is (58 ∷ []) ∷ []) s e f → Walked (is (91 ∷ []) ∷ []) s f g → Walked beginTests s at g
-begin-joined s at a b c d e f g w1 w2 w3 w4 w5 w6 w7 =
-    first at a w1 (first a b w2 (first b c w3 (first c d w4 (first d e w5 (first e f w6 w7)))))
-  where
-    first : {p q : List ℕ → Bool} {qs : List (List ℕ → Bool)} (i j : ℕ) → Walked (p ∷ []) s i j → Walked (q ∷ qs) s j g
-        → Walked (p ∷ q ∷ qs) s i g
-    first {p} {q} {qs} i j v w = walked-on (p ∷ []) q qs s i j g v w
+-- where they don't stand, nothing is said of what was read
+pub terms-unread : (s : List ℕ) (at next : ℕ) (a category : List ℕ) (b c day submitted : Moment) → length s < next → TermsAt s at next a b c
+    → TermsAt s at next category day submitted
+terms-unread s at next a category b c day submitted h p =
+    record {
+      walked = p .walked;
+      its-category = λ i. absurd (omega arith);
+      its-day = λ i. absurd (omega arith);
+      its-moment = λ i. absurd (omega arith);
+    }

@@ -66,7 +66,7 @@ label-entry m h =
     }
 
 -- the label of a count of half hours since midnight, before the day's end
-abbrev pub timeLabel : ℕ → List ℕ
+abbrev timeLabel : ℕ → List ℕ
 timeLabel m = (48 + m / 20) ∷ (48 + m / 2 % 10) ∷ 104 ∷ (48 + m % 2 * 3) ∷ 48 ∷ []
 
 is-time : ℕ → Bool
@@ -180,9 +180,11 @@ label-listed steps k stop j p w g a b =
     label-before steps j m h g l e f ∙ sym (entry-time m n))
 
 -- the labels of the first step
-pub first-labels : (steps : ℕ) → 2 ≤ steps → (hourLabel steps 0 ≡ timeLabel 0) × (hourLabel steps 1 ≡ timeLabel 1)
+pub first-labels : (steps : ℕ) → 2 ≤ steps → (hourLabel steps 0 ≡ part 4 5 labelList) × (hourLabel steps 1 ≡ part 14 5 labelList)
 unfolding hourLabel labelOf
 first-labels steps h =
     let a = ne-eqb 0 steps (λ (e : 0 ≡ steps). omega arith) in
     let b = ne-eqb 1 steps (λ (e : 1 ≡ steps). omega arith) in
-    by-test (ltb steps plainSteps) (λ t. (rw (a, t), rw (b, t))) (λ t. (rw (a, t), rw (b, t)))
+    let l : (hourLabel steps 0 ≡ timeLabel 0) × (hourLabel steps 1 ≡ timeLabel 1) =
+    by-test (ltb steps plainSteps) (λ t. (rw (a, t), rw (b, t))) (λ t. (rw (a, t), rw (b, t))) in
+    (l .0 ∙ sym (entry-time 0 (omega arith)), l .1 ∙ sym (entry-time 1 (omega arith)))

@@ -17,7 +17,7 @@ use Rattle.notification.specs.Forms.{isDigit}
 use Rattle.request.specs.Tokens.{quoted, tokens}
 use Rattle.request.specs.Reading.{isLabelByte}
 use Rattle.request.proofs.Unquoted.{label-unquoted}
-use Rattle.request_reader.specs.declared.step.Layout.{Layout}
+use Rattle.request_reader.specs.declared.layouts.Layout.{Layout}
 use Rattle.request_reader.specs.Walking.{part, Passed}
 use Rattle.request_reader.specs.Steps.{beforeFrom, beforeUntil, beforePower, FiveAt, LaidOut, LabelEntry, RunAt, FrontAt}
 use Rattle.request_reader.specs.Series.{betweenSteps}

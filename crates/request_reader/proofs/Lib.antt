@@ -19,4 +19,5 @@ pub mod PlainFronts
 pub mod RunLoops
 pub mod RunStarts
 pub mod SeriesReads
+pub mod StepLayouts
 pub mod ObjectReads

@@ -9,11 +9,11 @@ use lib.Dec.{eqb, ltb, leb}
 use lib.ListN.{length, getD, drop, drop-of-length-le}
 use lib.Seq.{drop-cons}
 use borrow.Author.Tests.{ltb-true, lt-ltb, leb-true, eqb-true}
-use Rattle.lists.proofs.Tests.{by-test, true-false, and-left, and-right, and-true}
+use Rattle.lists.proofs.Tests.{by-test, true-false, and-left, and-right}
 use Rattle.calendar.specs.Dates.{dayCount}
-use Rattle.calendar.specs.Texts.{tens, ones, digit, textOf, pairOf, dayOf}
-use Rattle.calendar.specs.declared.texts.Day.{Day}
+use Rattle.calendar.specs.Texts.{tens, ones, digit, textOf, pairOf, dayAt, dayOf}
 use Rattle.calendar.specs.declared.texts.Day.the-variants.{Number, NoDay}
+use Rattle.calendar.proofs.Reading.{eight-read}
 use Rattle.calendar.proofs.TwoWays.{read-text, text-read, pair-digits, digits-pair}
 use Rattle.request.specs.Moments.{daySeconds, inTime, momentText, momentIn, isMomentText}
 use Rattle.request.specs.declared.Moment.{Moment}
@@ -61,17 +61,26 @@ module _ (s : List ℕ) (e : length s ≡ 20) where
     pub seconds : t < 60
 
   -- the digits of the date, one by one
-  pub its-date : dateDigits s ≡ getD s 0 0 ∷ getD s 1 0 ∷ getD s 2 0 ∷ getD s 3 0 ∷ getD s 5 0 ∷ getD s 6 0 ∷ getD s 8 0 ∷ getD s 9 0 ∷ []
+  abbrev dateBytes : List ℕ
+  dateBytes = getD s 0 0 ∷ getD s 1 0 ∷ getD s 2 0 ∷ getD s 3 0 ∷ getD s 5 0 ∷ getD s 6 0 ∷ getD s 8 0 ∷ getD s 9 0 ∷ []
+
+  its-date : dateDigits s ≡ dateBytes
   unfolding bytesFrom
   its-date =
       let b = bytes-all s 0 20 e in
       ap dateDigits b
 
+  -- in pairs they give the day
+  pub day-read : dayAt (pairOf (getD s 0 0) (getD s 1 0))
+      (record { year = pairOf (getD s 2 0) (getD s 3 0); month = pairOf (getD s 5 0) (getD s 6 0); day = pairOf (getD s 8 0) (getD s 9 0) })
+      ≡ dayOf (dateDigits s)
+  day-read = eight-read dateBytes refl ∙ ap dayOf (sym its-date)
+
   made : (n : ℕ) → dayOf (dateDigits s) ≡ Number n → Parted → (momentText (record { day = n; second = 3600 * h + 60 * m + t }) ≡ s) × (n < dayCount)
   unfolding bytesFrom momentText
   made n d p =
       let r = read-text (dateDigits s) n d in
-      let text : textOf n ≡ getD s 0 0 ∷ getD s 1 0 ∷ getD s 2 0 ∷ getD s 3 0 ∷ getD s 5 0 ∷ getD s 6 0 ∷ getD s 8 0 ∷ getD s 9 0 ∷ [] = sym (r .1) ∙ its-date in
+      let text : textOf n ≡ dateBytes = sym (r .1) ∙ its-date in
       let x = 3600 * h + 60 * m + t in
       let hs = p .hours in
       let ms = p .minutes in
@@ -136,58 +145,55 @@ text-date x k = rw (lt-ltb (x .day) dayCount k) (rw (lt-ltb (x .day) dayCount k)
 
 -- ---- what the reader finds
 
-module _ (s : List ℕ) (e : length s ≡ 20) (marked : Bool) (time : ℕ) (day : Day) (em : marked ≡ marksStand s) (et : time ≡ timeIn s) (ed : day ≡ dayOf (dateDigits s)) where
-  -- a time is one where it is below the seconds of a day
-  time-parts : time < daySeconds → (timed s e ≡ true) × (time ≡ 3600 * h s e + 60 * m s e + t s e)
-  unfolding timeIn
-  time-parts k =
-      by-test (timed s e)
-      (λ q. (q, et ∙ rw q))
-      (λ q. let z : time ≡ daySeconds = et ∙ rw q in absurd (omega arith))
-
-  moment-found : (n : ℕ) → day ≡ Number n → (marked && ltb time daySeconds) ≡ true
-      → (isMomentText s ≡ true) × (_≡_ {A = Moment} (record { day = n; second = time }) (momentIn s))
-  unfolding inTime
-  moment-found n q g =
-      let k = ltb-true time daySeconds (and-right marked (ltb time daySeconds) g) in
-      let f = time-parts k in
-      let x : Moment = record { day = n; second = time } in
-      let w = made s e n (sym ed ∙ q) (parted-made s e (sym em ∙ and-left marked (ltb time daySeconds) g) (f .0)) in
-      let y : momentText x ≡ s = ap (λ (i : ℕ). momentText (record { day = n; second = i })) (f .1) ∙ w .0 in
-      let i : inTime x ≡ true = rw (lt-ltb n dayCount (w .1), lt-ltb time daySeconds k) in
-      (ap isMomentText (sym y) ∙ moment-made x i, sym (moment-read x i) ∙ ap momentIn y)
-
-  -- and where the text is a moment's, it finds it
-  moment-parts : isMomentText s ≡ true → (marked ≡ true) × (time < daySeconds) × (day ≡ Number (momentIn s .day))
+module _ (s : List ℕ) where
+  -- a moment's text has its marks, a time and a day
+  moment-parts : isMomentText s ≡ true → (marksStand s ≡ true) × (timeIn s < daySeconds) × (dayOf (dateDigits s) ≡ Number (momentIn s .day))
   moment-parts g =
       let b = moment-back s g in
       let x = momentIn s in
       let r = in-range x (b .0) in
-      let z = et ∙ (ap timeIn (b .1) ∙ text-time x (r .0) (r .1)) in (
-        em ∙ (ap marksStand (b .1) ∙ text-marks x (r .0)),
+      let z = ap timeIn (b .1) ∙ text-time x (r .0) (r .1) in (
+        ap marksStand (b .1) ∙ text-marks x (r .0),
         omega (arith, r .1, z),
-        ed ∙ (ap (λ (y : List ℕ). dayOf (dateDigits y)) (b .1) ∙ text-date x (r .0)),
+        ap (λ (y : List ℕ). dayOf (dateDigits y)) (b .1) ∙ text-date x (r .0),
       )
 
-  -- WHAT THE READER SAYS
-  pub read-day : (n : ℕ) → day ≡ Number n
-      → ((marked && ltb time daySeconds) ≡ isMomentText s) × ((marked && ltb time daySeconds) ≡ true → _≡_ {A = Moment} (record { day = n; second = time }) (momentIn s))
-  read-day n q = (
-    by-test (marked && ltb time daySeconds)
-        (λ g. g ∙ sym (moment-found n q g .0))
-        (λ g. by-test (isMomentText s)
-        (λ f. let p = moment-parts f in true-false (marked && ltb time daySeconds) (and-true marked (ltb time daySeconds) (p .0) (lt-ltb time daySeconds (p .1))) g)
-        (λ f. g ∙ sym f)),
-    λ g. moment-found n q g .1,
-  )
+  -- so a text that lacks one of them is none
+  pub no-marks : marksStand s ≡ false → false ≡ isMomentText s
+  no-marks q = by-test (isMomentText s) (λ f. true-false (marksStand s) (moment-parts f .0) q) (λ f. sym f)
 
-  pub read-none : day ≡ NoDay → false ≡ isMomentText s
-  read-none q =
+  pub no-day : dayOf (dateDigits s) ≡ NoDay → false ≡ isMomentText s
+  no-day q =
       by-test (isMomentText s)
       (λ f. let z : NoDay ≡ Number (momentIn s .day) = sym q ∙ moment-parts f .2 in
       let o : _≡_ {A = ℕ} 0 1 = cc in
       absurd (omega arith))
       (λ f. sym f)
+
+  module _ (time : ℕ) (et : time ≡ timeIn s) where
+    pub no-time : daySeconds ≤ time → false ≡ isMomentText s
+    no-time k = by-test (isMomentText s) (λ f. absurd (omega (arith, moment-parts f .1))) (λ f. sym f)
+
+    module _ (e : length s ≡ 20) (k : time < daySeconds) where
+      -- a time is one where it is below the seconds of a day
+      time-parts : (timed s e ≡ true) × (time ≡ 3600 * h s e + 60 * m s e + t s e)
+      unfolding timeIn
+      time-parts =
+          by-test (timed s e)
+          (λ q. (q, et ∙ rw q))
+          (λ q. let z : time ≡ daySeconds = et ∙ rw q in absurd (omega arith))
+
+      -- and a text that has all three is the moment's
+      pub moment-found : (n : ℕ) → marksStand s ≡ true → dayOf (dateDigits s) ≡ Number n
+          → (true ≡ isMomentText s) × (_≡_ {A = Moment} (record { day = n; second = time }) (momentIn s))
+      unfolding inTime
+      moment-found n g q =
+          let f = time-parts in
+          let x : Moment = record { day = n; second = time } in
+          let w = made s e n q (parted-made s e g (f .0)) in
+          let y : momentText x ≡ s = ap (λ (i : ℕ). momentText (record { day = n; second = i })) (f .1) ∙ w .0 in
+          let i : inTime x ≡ true = rw (lt-ltb n dayCount (w .1), lt-ltb time daySeconds k) in
+          (sym (ap isMomentText (sym y) ∙ moment-made x i), sym (moment-read x i) ∙ ap momentIn y)
 
 -- the parts of the time, one by one
 pub pair-most : (a b : ℕ) → pairOf a b ≤ 100

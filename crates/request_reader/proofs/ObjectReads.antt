@@ -23,9 +23,11 @@ use Rattle.refusals.specs.declared.Verdict.the-variants.{Pass, No}
 use Rattle.refusals.proofs.Tests.{refused-pass}
 use Rattle.notification.specs.Forms.{places, sixBytes, allZero}
 use Rattle.notification.specs.Reading.{isPower}
+use Rattle.notification.specs.Reading as notes
 use Rattle.notification.specs.declared.Key.{Key}
+use Rattle.notification.specs.declared.Notification.{Notification}
 use Rattle.notification.specs.declared.Reading.{Reading}
-use Rattle.reader.specs.Folding.{Taken, noSteps, judgement}
+use Rattle.reader.specs.Folding.{Taken, noSteps, outcomeOf, judgement}
 use Rattle.reader.proofs.Series.{verdictFrom, powersFrom, told, judged-told}
 use Rattle.request.specs.Tokens.{quoted, inside, tokensFrom, tokens, fits, is, quotedBy}
 use Rattle.request.specs.Moments.{momentIn, isDayText}
@@ -173,15 +175,24 @@ module _ (s : List ℕ) (few : length s ≤ objectMost) where
         (λ n. by-verdict (fault steps 0 ss) refl n)
         (λ n. rw (n, le-leb (length s) objectMost few, good))
 
+    -- the request is accepted or refused as its notification is
+    by-notification : (v : Verdict) (n : Notification)
+        → decide v (accepted (record { notification = n; origin = textAt 11 ts; moment = momentIn (textAt 23 ts) })) refused
+        ≡ concluded (decide v (notes.accepted n) notes.refused)
+    by-notification Pass n = refl
+    by-notification (No r) n = refl
+
     -- what the reader has found: the key, what is kept of the steps, the origin and the submission
-    pub object-read : (k : Key) (x : Taken) (origin : List ℕ) (moment : Moment) (read : Reading) → k ≡ key
+    pub object-read : (k : Key) (x : Taken) (origin : List ℕ) (moment : Moment) → k ≡ key
         → x ≡ tellAll steps (record { tally = noSteps; powers = replicate places 0 }) ss
-        → origin ≡ textAt 11 ts → moment ≡ momentIn (textAt 23 ts) → read ≡ judgement k steps (x .tally) (x .powers)
-        → decide (read .verdict) (accepted (record { notification = read .notification; origin = origin; moment = moment })) refused ≡ readObject s
-    object-read k x origin moment read ek ex eo em er =
-        let e : read ≡ told (saidAt steps) firstStep steps key ss =
-        er ∙ (ap (λ (z : Key). judgement z steps (x .tally) (x .powers)) ek ∙ (ap (λ (z : Taken). judgement key steps (z .tally) (z .powers)) ex ∙ judged-told (saidAt steps) firstStep steps key (steps-small (dayRead ts)) ss)) in
-        rw (eo, em, e) all-steps
+        → origin ≡ textAt 11 ts → moment ≡ momentIn (textAt 23 ts)
+        → decide (outcomeOf steps (x .tally)) (accepted (record { notification = record { key = k; steps = steps; powers = x .powers }; origin = origin; moment = moment })) refused
+        ≡ readObject s
+    unfolding judgement
+    object-read k x origin moment ek ex eo em =
+        let e : judgement k steps (x .tally) (x .powers) ≡ told (saidAt steps) firstStep steps key ss =
+        ap (λ (z : Key). judgement z steps (x .tally) (x .powers)) ek ∙ (ap (λ (z : Taken). judgement key steps (z .tally) (z .powers)) ex ∙ judged-told (saidAt steps) firstStep steps key (steps-small (dayRead ts)) ss) in
+        rw (eo, em) (by-notification (outcomeOf steps (x .tally)) (record { key = k; steps = steps; powers = x .powers }) ∙ (ap concluded e ∙ all-steps))
 
 -- ---- by the places that the reader has found
 
@@ -249,19 +260,26 @@ module _ (s : List ℕ) (few : length s ≤ objectMost) (a b from : ℕ) (ceder 
         pub series-lost : good ≡ false → refused (input Object) ≡ readObject s
         series-lost g = no-object s few (its-object ∙ g)
 
-        pub series-found : (read : Reading) → good ≡ true → x ≡ record { tally = noSteps; powers = replicate places 0 }
-            → read ≡ judgement (record { ceder = ceder; acquirer = acquirer; category = category; day = day .day }) steps (y .tally) (y .powers)
-            → decide (read .verdict) (accepted (record { notification = read .notification; origin = origin; moment = submitted })) refused ≡ readObject s
+        pub series-found : (v : Verdict) → good ≡ true → x ≡ record { tally = noSteps; powers = replicate places 0 } → v ≡ outcomeOf steps (y .tally)
+            → decide v (accepted (record {
+              notification = record {
+                key = record { ceder = ceder; acquirer = acquirer; category = category; day = day .day };
+                steps = steps;
+                powers = y .powers;
+              };
+              origin = origin;
+              moment = submitted;
+            })) refused ≡ readObject s
         unfolding stepsRead
-        series-found read g ex er =
+        series-found v g ex ev =
             let n : length all - 33 ≡ length (drop 32 all) - 1 = omega (arith, length-drop 32 all) in
             let m : countOf (drop 32 all) ≡ stepCount all = sym (ap (λ (k : ℕ). k / 14) n) in
             let d : stepsIn (countOf (tokens (drop from s))) (tokens (drop from s)) ≡ stepsRead all =
             ap (λ (us : List (List ℕ)). stepsIn (countOf us) us) (head-walked .found h .1) ∙ ap (λ (k : ℕ). stepsIn k (drop 32 all)) m in
             let t : y ≡ tellAll (stepsOf (dayRead all)) (record { tally = noSteps; powers = replicate places 0 }) (stepsRead all) =
             se .its-steps g ∙ (ap (λ (z : Taken). tellAll steps z (stepsIn (countOf (tokens (drop from s))) (tokens (drop from s)))) ex ∙ (ap (λ (q : List (Step (List ℕ))). tellAll steps (record { tally = noSteps; powers = replicate places 0 }) q) d ∙ ap (λ (k : ℕ). tellAll k (record { tally = noSteps; powers = replicate places 0 }) (stepsRead all)) same-steps)) in
-            object-read s few (its-object ∙ g) (record { ceder = ceder; acquirer = acquirer; category = category; day = day .day }) y origin submitted read its-key t (pa .its-origin a-within) its-moment
-            (er ∙ ap (λ (k : ℕ). judgement (record { ceder = ceder; acquirer = acquirer; category = category; day = day .day }) k (y .tally) (y .powers)) same-steps)
+            rw (ev, same-steps)
+            (object-read s few (its-object ∙ g) (record { ceder = ceder; acquirer = acquirer; category = category; day = day .day }) y origin submitted its-key t (pa .its-origin a-within) its-moment)
 
 -- nothing stands past the end, and nothing is no object
 pub past-end : (s : List ℕ) (at : ℕ) → length s ≤ at → refused (input Object) ≡ readObject (drop at s)

@@ -91,14 +91,3 @@ module _ (s : List ℕ) (at from : ℕ) (p : Past s at from) (v : at ≤ length 
         within = h;
         lays = λ r. ap (λ (l : List ℕ). tokens (l ++ r)) its ∙ quoted-first t r q;
       })
-
--- ---- a member's name, a colon and blanks
-
-pub opened-passed : (name s : List ℕ) (at named marked from : ℕ) → (named ≤ length s → Passed (name ∷ []) s at named)
-    → (marked ≤ length s → Passed ((58 ∷ []) ∷ []) s named marked) → Past s marked from → (marked ≤ length s → Passed [] s marked from)
-    → from ≤ length s → Passed (name ∷ (58 ∷ []) ∷ []) s at from
-opened-passed name s at named marked from u v p w k =
-    let i : marked ≤ length s = omega (arith, p .on) in
-    let m = v i in
-    let n = u (omega (arith, m .on)) in
-    passed-on (name ∷ (58 ∷ []) ∷ []) [] s at marked from (passed-on (name ∷ []) ((58 ∷ []) ∷ []) s at named marked n m) (w i)

@@ -5,8 +5,9 @@ use mathlib.Core.List.{List, [], _∷_, _++_, append-assoc}
 use Prim.Native.Nat.{ℕ, _+_, _<_, _≤_}
 use native.Mathlib.Omega.{arith}
 use lib.Dec.{eqb}
-use lib.ListN.{length, getD, drop, take-append-drop, length-take, length-drop}
-use lib.Seq.{drop-drop}
+use lib.ListN.{length, getD, take, drop, take-append-drop, length-take, length-drop}
+use lib.Seq.{drop-drop, take-all}
+use borrow.Author.Tests.{eqb-true}
 use Rattle.lists.specs.Searches.{every, same}
 use Rattle.lists.proofs.Tests.{and-left, and-right, and-true}
 use Rattle.lists.proofs.Searches.{same-refl, same-true}
@@ -19,15 +20,16 @@ use Rattle.request.specs.Objects.{statusName, created, seriesName}
 use Rattle.request.specs.declared.Moment.{Moment}
 use Rattle.request.proofs.Fits.{inside-quoted}
 use Rattle.request.proofs.Unquoted.{code-unquoted, category-unquoted, moment-text-unquoted, day-text-unquoted}
-use Rattle.request_reader.specs.Walking.{starts, Walked, Membered, isPlain, isMark, part, memberTests}
+use Rattle.request_reader.specs.Walking.{starts, Walked, isPlain, isMark, part, memberTests}
 use Rattle.request_reader.specs.Heads.{PartiesAt, TermsAt, PlainParties, PlainDates, memberFrom, beginTests}
 use Rattle.request_reader.specs.declared.head.Terms.{Terms}
 use Rattle.request_reader.proofs.Fronts.{tokens-mark, tokens-quoted}
-use Rattle.request_reader.proofs.Walks.{stands-split, stands-inside}
+use Rattle.request_reader.proofs.Walks.{comma, colon, bracket, brace, stands-split, stands-inside}
 use Rattle.request_reader.proofs.Values.{quoted-by}
-use Rattle.request_reader.proofs.ByteNumbers.{part-byte, part-alike}
+use Rattle.request_reader.proofs.ByteNumbers.{part-byte, part-alike, alike-same, alike-join}
+use Rattle.request_reader.proofs.LaidFronts.{byte-rest}
 use Rattle.request_reader.proofs.ValueForms.{code-filled}
-use Rattle.request_reader.proofs.Heads.{parties-joined, terms-joined}
+use Rattle.request_reader.proofs.Heads.{Membered, parties-joined, terms-joined}
 
 -- ---- tokens, one after another
 
@@ -36,22 +38,6 @@ then-mark b r ts m e = tokens-mark b r m ∙ ap (λ (x : List (List ℕ)). (b �
 
 then-quoted : (t r : List ℕ) (ts : List (List ℕ)) → every isPlain t ≡ true → tokens r ≡ ts → tokens (quoted t ++ r) ≡ quoted t ∷ ts
 then-quoted t r ts p e = tokens-quoted t r p ∙ ap (λ (x : List (List ℕ)). quoted t ∷ x) e
-
-colon : isMark 58 ≡ true
-unfolding isMark
-colon = refl
-
-comma : isMark 44 ≡ true
-unfolding isMark
-comma = refl
-
-bracket : isMark 91 ≡ true
-unfolding isMark
-bracket = refl
-
-brace : isMark 123 ≡ true
-unfolding isMark
-brace = refl
 
 -- tokens that pass the tests stand between two places
 walked-by : (ps : List (List ℕ → Bool)) (s : List ℕ) (at next : ℕ) → next ≤ length s → starts ps (tokens (drop at s)) ≡ true
@@ -160,19 +146,48 @@ plain-parties s p a b c x y z ea eb ec e ex ey ez =
     rw (code-filled (part 24 16 s) x f ex, code-filled (part 68 16 s) y g ey, code-filled (part 110 16 s) z h ez)
     (parties-between s p f g h)
 
+-- words of eight bytes that cover a text together: three of them, and its last one
+words-joined : (s t : List ℕ) (p k : ℕ) → k ≤ 24 → p + (k + 8) ≤ length s → length t ≡ k + 8 → (a b c d : Bool)
+    → a ≡ same (part p 8 s) (part 0 8 t) → b ≡ same (part (p + 8) 8 s) (part 8 8 t) → c ≡ same (part (p + 16) 8 s) (part 16 8 t)
+    → d ≡ same (part (p + k) 8 s) (part (0 + k) 8 t) → (((a && b) && c) && d) ≡ true → part p (k + 8) s ≡ t
+words-joined s t p k h l m a b c d ea eb ec ed e =
+    let abc = and-left ((a && b) && c) d e in
+    let ab = and-left (a && b) c abc in
+    let wa = alike-same s t p 0 8 (sym ea ∙ and-left a b ab) in
+    let wb = alike-same s t (p + 8) 8 8 (sym eb ∙ and-right a b ab) in
+    let wc = alike-same s t (p + 16) 16 8 (sym ec ∙ and-right (a && b) c abc) in
+    let wd = alike-same s t (p + k) (0 + k) 8 (sym ed ∙ and-right ((a && b) && c) d e) in
+    let two = alike-join s t p 0 8 8 8 (omega arith) wa wb in
+    let three = alike-join s t p 0 16 16 8 (omega arith) two wc in
+    part-alike s t p 0 (k + 8) l (omega arith) (alike-join s t p 0 k 24 8 h three wd) ∙ take-all (k + 8) t (omega arith)
+
 -- what stands around them, as the reader finds it
-pub around-codes : (s : List ℕ) → 128 ≤ length s → (a b c d : Bool)
-    → a ≡ same (part 0 24 s) (123 ∷ (quoted cederName ++ 58 ∷ 34 ∷ [])) → a ≡ true → b ≡ same (part 40 28 s) (memberFrom acquirerName)
-    → c ≡ same (part 84 26 s) (memberFrom originName) → d ≡ same (part 126 2 s) (34 ∷ 44 ∷ []) → ((b && c) && d) ≡ true → PlainParties s
-around-codes s h a b c d ea ta eb ec ed e =
-    let bc = and-left (b && c) d e in
-    record {
-      within = h;
-      to-ceder = same-true (part 0 24 s) (123 ∷ (quoted cederName ++ 58 ∷ 34 ∷ [])) (sym ea ∙ ta);
-      to-acquirer = same-true (part 40 28 s) (memberFrom acquirerName) (sym eb ∙ and-left b c bc);
-      to-origin = same-true (part 84 26 s) (memberFrom originName) (sym ec ∙ and-right b c bc);
-      end = same-true (part 126 2 s) (34 ∷ 44 ∷ []) (sym ed ∙ and-right (b && c) d e);
-    }
+module _ (s : List ℕ) (h : 128 ≤ length s) where
+  -- the four words of a text from a place on, as they are compared
+  abbrev words : List ℕ → ℕ → ℕ → Bool → Bool → Bool → Bool → Type 0
+  words t p k a b c d =
+      (a ≡ same (part p 8 s) (part 0 8 t)) × (b ≡ same (part (p + 8) 8 s) (part 8 8 t)) × (c ≡ same (part (p + 16) 8 s) (part 16 8 t))
+      × (d ≡ same (part (p + k) 8 s) (part k 8 t)) × ((((a && b) && c) && d) ≡ true)
+
+  two-bytes : (eqb (getD s 126 0) 34 && eqb (getD s 127 0) 44) ≡ true → part 126 2 s ≡ 34 ∷ 44 ∷ []
+  two-bytes e =
+      let a = eqb (getD s 126 0) 34 in
+      let b = eqb (getD s 127 0) 44 in
+      ap (λ (l : List ℕ). take 2 l)
+      (byte-rest s 126 34 (omega arith) (eqb-true (getD s 126 0) 34 (and-left a b e))
+      ∙ ap (λ (l : List ℕ). 34 ∷ l) (byte-rest s 127 44 (omega arith) (eqb-true (getD s 127 0) 44 (and-right a b e))))
+
+  pub around-codes : (a b0 b1 b2 b3 c0 c1 c2 c3 : Bool) → a ≡ same (part 0 24 s) (123 ∷ (quoted cederName ++ 58 ∷ 34 ∷ [])) → a ≡ true
+      → words (memberFrom acquirerName) 40 20 b0 b1 b2 b3 → words (memberFrom originName) 84 18 c0 c1 c2 c3
+      → (eqb (getD s 126 0) 34 && eqb (getD s 127 0) 44) ≡ true → PlainParties s
+  around-codes a b0 b1 b2 b3 c0 c1 c2 c3 ea ta (f0, f1, f2, f3, f) (g0, g1, g2, g3, g) e =
+      record {
+        within = h;
+        to-ceder = same-true (part 0 24 s) (123 ∷ (quoted cederName ++ 58 ∷ 34 ∷ [])) (sym ea ∙ ta);
+        to-acquirer = words-joined s (memberFrom acquirerName) 40 20 (omega arith) (omega arith) refl b0 b1 b2 b3 f0 f1 f2 f3 f;
+        to-origin = words-joined s (memberFrom originName) 84 18 (omega arith) (omega arith) refl c0 c1 c2 c3 g0 g1 g2 g3 g;
+        end = two-bytes e;
+      }
 
 -- ---- the category and the two dates
 

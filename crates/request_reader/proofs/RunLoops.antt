@@ -1,16 +1,16 @@
 -- Steps taken at once, one after another: the place in the day and that in the list of labels go on together, and what is kept and the
 -- tokens from there on say what they said at first.
-use mathlib.Core.Path.{_≡_, sym}
+use mathlib.Core.Path.{_≡_, refl, sym}
 use mathlib.Core.Bool.{not}
 use mathlib.Core.List.{List, [], _∷_, _++_}
 use Prim.Native.Nat.{ℕ, suc, _+_, _-_, _*_, _<_, _≤_}
 use native.Mathlib.Omega.{arith}
 use lib.Dec.{eqb}
 use lib.ListN.{length, set}
-use Rattle.refusals.specs.declared.Verdict.{Verdict}
 use Rattle.refusals.specs.declared.Verdict.the-variants.{Pass}
 use Rattle.notification.specs.Forms.{powerEnd, places}
 use Rattle.reader.specs.Walking.{halfHours, Plain}
+use Rattle.reader.specs.declared.tally.Tally.{Tally}
 use Rattle.reader.specs.Folding.{Taken}
 use Rattle.reader.proofs.Figures.{power-sound}
 use Rattle.reader.proofs.GoodLines.{sum-zero}
@@ -29,18 +29,21 @@ front-small lead from until s at next v f = power-sound (f .digits ++ 59 ∷ [])
 -- ---- what holds before each step
 
 -- what is kept before step k, where whether a power was not 0 is told by a sum
-abbrev pub keptAt : Verdict → ℕ → ℕ → List ℕ → Taken
-keptAt verdict k sum ps = record { tally = record { lines = k; verdict = verdict; any = not (eqb sum 0) }; powers = ps }
+abbrev pub keptAt : ℕ → ℕ → List ℕ → Taken
+keptAt k sum ps = record { tally = record { lines = k; verdict = Pass; any = not (eqb sum 0) }; powers = ps }
 
-module _ (steps first stop : ℕ) (s : List ℕ) (from : ℕ) (x : Taken) (verdict : Verdict) where
+pub kept-here : (t : Tally) (sum : ℕ) (ps : List ℕ) → t .verdict ≡ Pass → not (eqb sum 0) ≡ t .any
+    → keptAt (t .lines) sum ps ≡ record { tally = t; powers = ps }
+kept-here t sum ps p e = rw (e, ← p)
+
+module _ (steps first stop : ℕ) (s : List ℕ) (from : ℕ) (x : Taken) where
   pub record RunInv (k i sum at : ℕ) (ps : List ℕ) : Type 0 where
-    pub pass : verdict ≡ Pass
     pub on : first ≤ k
     pub upto : first < k → k ≤ stop
     pub listed : i ≡ 10 * (halfHours steps first + (k - first))
     pub small : sum ≤ 10000 * k + 1
     pub within : at ≤ length s
-    pub onward : Onward steps s from x at (keptAt verdict k sum ps)
+    pub onward : Onward steps s from x at (keptAt k sum ps)
 
   module _ (p : Plain steps first stop) (k i sum at : ℕ) (ps : List ℕ) (r : RunInv k i sum at ps) (b : k < stop) where
     half : ℕ
@@ -73,13 +76,12 @@ module _ (steps first stop : ℕ) (s : List ℕ) (from : ℕ) (x : Taken) (verdi
       run-more =
           let o = r .on in
           let n = front-small betweenSteps (part (i + 4) 5 labelList) (part (i + 14) 5 labelList) s at next v f in
-          let here = keptAt verdict k sum ps in
-          let there = keptAt verdict (k + 1) (sum + v) (set ps k v) in
+          let here = keptAt k sum ps in
+          let there = keptAt (k + 1) (sum + v) (set ps k v) in
           let step : Onward steps s at here next there =
           rw (sum-zero sum v)
-          at (front-onward steps s at next v (here .tally) ps (r .pass) (omega (arith, p .within)) g labelled) in
+          at (front-onward steps s at next v (here .tally) ps refl (omega (arith, p .within)) g betweenSteps labelled refl) in
           record {
-            pass = r .pass;
             on = omega arith;
             upto = λ h. omega arith;
             listed = omega (arith, r .listed);
@@ -89,16 +91,14 @@ module _ (steps first stop : ℕ) (s : List ℕ) (from : ℕ) (x : Taken) (verdi
           }
 
 -- and before the first
-pub run-start : (steps k stop : ℕ) (s : List ℕ) (from : ℕ) (verdict : Verdict) (i sum : ℕ) (ps : List ℕ)
-    → verdict ≡ Pass → i ≡ halfHours steps k * 10 → sum ≤ 1 → from ≤ length s
-    → RunInv steps k stop s from (keptAt verdict k sum ps) verdict k i sum from ps
-run-start steps k stop s from verdict i sum ps p e h w =
+pub run-start : (steps k stop : ℕ) (s : List ℕ) (from i sum : ℕ) (ps : List ℕ)
+    → i ≡ halfHours steps k * 10 → sum ≤ 1 → from ≤ length s → RunInv steps k stop s from (keptAt k sum ps) k i sum from ps
+run-start steps k stop s from i sum ps e h w =
     record {
-      pass = p;
       on = omega arith;
       upto = λ l. absurd (omega arith);
       listed = omega arith;
       small = omega arith;
       within = w;
-      onward = onward-refl steps s from (keptAt verdict k sum ps);
+      onward = onward-refl steps s from (keptAt k sum ps);
     }

@@ -19,7 +19,7 @@ use Rattle.request.specs.Tokens.{isBlank, quote, onto, tokensFrom, tokens, fits
 use Rattle.request.specs.Objects.{Step}
 use Rattle.request.specs.Writing.{objectMost, hourLabel}
 use Rattle.request.specs.Reading.{stepsIn}
-use Rattle.request_reader.specs.declared.step.Layout.{Layout}
+use Rattle.request_reader.specs.declared.layouts.Layout.{Layout}
 use Rattle.request_reader.specs.Walking.{part, Past, Walked, Passed, firstToken, isMark}
 use Rattle.request_reader.specs.Steps.{stepIn, saidAt, StepAt, beforeFrom, LaidOut}
 use Rattle.request_reader.specs.Series.{closing, countOf, isSeries, firstStep, tellAll, isRest, stepsRest, betweenSteps}
@@ -28,7 +28,7 @@ use Rattle.request_reader.proofs.Walks.{starts-one, nowhere, walked-on,
 use Rattle.request_reader.proofs.Heads.{walked-within}
 use Rattle.request_reader.proofs.Passing.{passed-on, mark-passed}
 use Rattle.request_reader.proofs.StepSeries.{fits-append, no-rest, no-front, no-first, no-end, last-rest, begins-end, left-end}
-use Rattle.request_reader.proofs.StepRuns.{step-told, step-onward}
+use Rattle.request_reader.proofs.StepRuns.{told-on, step-told, step-onward}
 
 -- ---- a byte by itself, as the first token
 
@@ -116,7 +116,7 @@ next-told steps k k' from until s at next x y said e e' f u w r =
 -- ---- the first step, and the next one
 
 -- the tokens from a place on are those that stand before another and those from there on
-passed-tokens : (ts : List (List ℕ)) (s : List ℕ) (at next : ℕ) → Passed ts s at next → tokens (drop at s) ≡ ts ++ tokens (drop next s)
+pub passed-tokens : (ts : List (List ℕ)) (s : List ℕ) (at next : ℕ) → Passed ts s at next → tokens (drop at s) ≡ ts ++ tokens (drop next s)
 passed-tokens ts s at next p =
     let h = p .on in
     let e : at + (next - at) ≡ next = omega arith in
@@ -156,17 +156,39 @@ module _ (steps : ℕ) (s : List ℕ) (at next : ℕ) (x y : Taken) (n : NextSte
         let w = n .walked .found h in
         step-onward steps s lead next x y vs (w .0) (w .1) (n .its-tally h) e)
 
-    pub next-fewer : length (tokens (drop next s)) < length (tokens (drop lead s))
-    next-fewer =
-        let e = ap length (passed-tokens betweenSteps s lead at p) in
-        by-test (ltb (length s) next)
-        (λ t. omega (arith, e, ap length (nowhere s next (ltb-true (length s) next t))))
-        (λ t. omega (arith, e, ap length (n .walked .found (ltb-false (length s) next t) .1), length-drop 12 vs))
+  pub next-less : length (tokens (drop next s)) ≤ length (tokens (drop at s))
+  next-less =
+      by-test (ltb (length s) next)
+      (λ t. omega (arith, ap length (nowhere s next (ltb-true (length s) next t))))
+      (λ t. omega (arith, ap length (n .walked .found (ltb-false (length s) next t) .1), length-drop 12 vs))
 
-pub first-told : (steps : ℕ) (s : List ℕ) (at next : ℕ) (ps qs : List ℕ) (y : Taken) → qs ≡ ps
-    → NextStep steps s at next (record { tally = noSteps; powers = qs }) y → is (93 ∷ []) (firstToken s at) ≡ false
-    → Told steps s at (record { tally = noSteps; powers = ps }) next y
-first-told steps s at next ps qs y e n f = rw e at (step-first steps s at next (record { tally = noSteps; powers = qs }) y n f)
+-- before a step: the first one, where nothing is kept yet, or one after the comma
+module _ (steps : ℕ) (s : List ℕ) (first : ℕ) (x : Taken) where
+  pub record StepDue (lead at : ℕ) (y : Taken) : Type 0 where
+    pub on : lead ≤ at
+    pub begins : lead ≡ at → (at ≡ first) × (y ≡ x)
+    pub goes : lead < at → Told steps s first x lead y × Passed betweenSteps s lead at
+
+  pub due-first : StepDue first first x
+  due-first = record { on = omega arith; begins = λ e. (refl, refl); goes = λ h. absurd (omega arith) }
+
+  pub due-told : (lead at next : ℕ) (y z : Taken) → is (93 ∷ []) (firstToken s first) ≡ false → StepDue lead at y → NextStep steps s at next y z
+      → Told steps s first x next z
+  due-told lead at next y z f d n =
+      by-test (ltb lead at)
+      (λ t. let g = d .goes (ltb-true lead at t) in
+      told-on steps s first lead next x y z (g .0) (next-onward steps s at next y z n lead (g .1)))
+      (λ t. let e = d .begins (omega (arith, d .on, ltb-false lead at t)) in
+      rw (e .0, e .1) at (step-first steps s at next y z n (rw (e .0) f)))
+
+  pub due-next : (lead at : ℕ) (y : Taken) → Told steps s first x lead y → Passed betweenSteps s lead at → StepDue lead at y
+  due-next lead at y t p =
+      let e = ap length (passed-tokens betweenSteps s lead at p) in
+      record {
+        on = p .on;
+        begins = λ q. absurd (omega (arith, e, ap (λ (i : ℕ). length (tokens (drop i s))) q));
+        goes = λ h. (t, p);
+      }
 
 -- a step that is laid out so after `}` and a comma is laid out so from there on
 pub laid-before : (s : List ℕ) (lead at : ℕ) (l : Layout) → Passed betweenSteps s lead at → LaidOut beforeFrom s at l

@@ -24,14 +24,12 @@ use Rattle.request.specs.Writing.{objectMost}
 use Rattle.request.specs.Reading.{isLabelByte, isRun}
 use Rattle.request.specs.Objects.{fromName, untilName, powerName}
 use Rattle.request.proofs.Unquoted.{label-unquoted}
-use Rattle.request_reader.specs.Walking.{starts, Past, Walked, Passed, Opened, RunTo, firstToken, framed, between}
-use Rattle.request_reader.specs.Steps.{labelTests, LabelAt, powerOf, PowerAt, frontTests, stepIn, saidOf, saidBy, StepAt}
-use Rattle.request_reader.specs.Steps.{beforeFrom, beforeUntil, beforePower, FiveAt, LaidOut}
+use Rattle.request_reader.specs.Walking.{starts, Past, Walked, Opened, RunTo, firstToken, framed, between}
+use Rattle.request_reader.specs.Steps.{labelTests, LabelAt, powerOf, PowerAt, frontTests, stepIn, saidOf, saidBy, StepAt, FiveAt}
 use Rattle.request_reader.proofs.Walks.{starts-one, walked-on}
 use Rattle.request.proofs.Fits.{inside-quoted}
-use Rattle.request_reader.proofs.Values.{by-none, value-found, value-framed, value-tokens, member-token}
+use Rattle.request_reader.proofs.Values.{by-none, value-found, value-framed, value-tokens, value-token}
 use Rattle.request_reader.proofs.Heads.{walked-within}
-use Rattle.request_reader.proofs.Passing.{passed-on}
 use Rattle.request_reader.proofs.ByteRuns.{digits-lost, digits-found, digits-token}
 
 -- ---- a walk from a place past blanks is one from before them
@@ -43,14 +41,14 @@ walked-past ps s at from next p w =
       lost = λ h. rw (p .same-tokens) at (w .lost h);
     }
 
-module _ (name s : List ℕ) (at from : ℕ) (o : Opened name s at from) where
+module _ (name s : List ℕ) (at from : ℕ) (o : Opened (is name ∷ is (58 ∷ []) ∷ []) s at from) where
   -- the third token is the first one from the value's place on
   pub opened-token : o .mid ≤ length s → getD (tokens (drop at s)) 2 [] ≡ firstToken s from
   opened-token h =
-      sym (ap (λ (ts : List (List ℕ)). getD ts 0 []) (o .past .same-tokens ∙ o .named .found h .1) ∙ getD-drop 2 (tokens (drop at s)) 0 [])
+      sym (ap (λ (ts : List (List ℕ)). getD ts 0 []) (o .past .same-tokens ∙ o .walked .found h .1) ∙ getD-drop 2 (tokens (drop at s)) 0 [])
 
   value-walked : (q : List ℕ → Bool) (next : ℕ) → Walked (q ∷ []) s from next → Walked (is name ∷ is (58 ∷ []) ∷ q ∷ []) s at next
-  value-walked q next w = walked-on (is name ∷ is (58 ∷ []) ∷ []) q [] s at (o .mid) next (o .named) (walked-past (q ∷ []) s (o .mid) from next (o .past) w)
+  value-walked q next w = walked-on (is name ∷ is (58 ∷ []) ∷ []) q [] s at (o .mid) next (o .walked) (walked-past (q ∷ []) s (o .mid) from next (o .past) w)
 
   value-within : (q : List ℕ → Bool) (next : ℕ) → Walked (q ∷ []) s from next → next ≤ length s → o .mid ≤ length s
   value-within q next w h = walked-within q [] s (o .mid) next (walked-past (q ∷ []) s (o .mid) from next (o .past) w) h
@@ -67,9 +65,9 @@ module _ (name s : List ℕ) (at from : ℕ) (o : Opened name s at from) where
         let l : every isLabelByte (between s from n) ≡ true = ap (every isLabelByte) g ∙ a in
         let u = label-unquoted (between s from n) l in
         let k = value-tokens (every isLabelByte) s (o .mid) from (o .past) n f u in
-        let t = member-token name (every isLabelByte) s at from o (quoted (between s from n)) (tokens (drop (from + n + 2) s)) k in
+        let t = value-token (is name ∷ is (58 ∷ []) ∷ []) s at from o (quoted (between s from n)) (tokens (drop (from + n + 2) s)) k in
         record {
-          walked = walked-on (is name ∷ is (58 ∷ []) ∷ []) (quotedBy (every isLabelByte)) [] s at (o .mid) (from + n + 2) (o .named) (value-found (every isLabelByte) s (o .mid) from (o .past) n f l u);
+          walked = walked-on (is name ∷ is (58 ∷ []) ∷ []) (quotedBy (every isLabelByte)) [] s at (o .mid) (from + n + 2) (o .walked) (value-found (every isLabelByte) s (o .mid) from (o .past) n f l u);
           its-label = λ h. sym (ap (λ (x : List ℕ). same x (quoted wanted)) (t ∙ ap quoted g) ∙ same-refl (quoted wanted));
         }
 
@@ -270,28 +268,7 @@ module _ (from until s : List ℕ) (at inner first next second last third : ℕ)
   pub step-read : (said : LinePower) → said ≡ saidOf (right₁ && right₂) power → StepAt from until s at third said
   step-read said e = record { walked = v6; its-said = λ h. e ∙ its-said h }
 
-  -- how it is laid out, where both labels have five bytes of which the last is 0
-  module _ (h : third ≤ length s) (from₁ from₂ from₃ : ℕ) (b1 : first ≤ length s → Passed (quoted fromName ∷ (58 ∷ []) ∷ []) s inner from₁)
-      (b2 : second ≤ length s → Passed (quoted untilName ∷ (58 ∷ []) ∷ []) s next from₂) where
-    pub labels-within : length s ≤ objectMost → (from₁ ≤ objectMost) × (from₂ ≤ objectMost)
-    labels-within few = (omega (arith, b1 (first-within h) .within), omega (arith, b2 (second-within h) .within))
-
-    pub laid-out : (regular : Bool) → (inner ≤ length s → Passed ((123 ∷ []) ∷ []) s at inner) → (next ≤ length s → Passed ((44 ∷ []) ∷ []) s first next)
-        → (last ≤ length s → Passed ((44 ∷ []) ∷ []) s second last) → (third ≤ length s → Passed (quoted powerName ∷ (58 ∷ []) ∷ []) s last from₃)
-        → first ≡ from₁ + 7 → second ≡ from₂ + 7 → FiveAt s from₁ → FiveAt s from₂
-        → LaidOut beforeFrom s at (record { regular = regular; first = from₁; second = from₂; power = from₃ })
-    laid-out regular a1 a2 a3 b3 e f u v =
-        let to-until : Passed beforeUntil s first from₂ =
-        passed-on ((44 ∷ []) ∷ []) (quoted untilName ∷ (58 ∷ []) ∷ []) s first next from₂ (a2 (hn h)) (b2 (second-within h)) in
-        let to-power : Passed beforePower s second from₃ =
-        passed-on ((44 ∷ []) ∷ []) (quoted powerName ∷ (58 ∷ []) ∷ []) s second last from₃ (a3 (hl h)) (b3 h) in
-        record {
-          to-from = passed-on ((123 ∷ []) ∷ []) (quoted fromName ∷ (58 ∷ []) ∷ []) s at inner from₁ (a1 (hi h)) (b1 (first-within h));
-          from-label = u;
-          to-until = rw e at to-until;
-          until-label = v;
-          to-power = rw f at to-power;
-        }
+-- ---- a label of five bytes
 
 pub five-at : (s : List ℕ) (at : ℕ) → ((eqb (getD s at 0) 34 && eqb (getD s (at + 5) 0) 48) && eqb (getD s (at + 6) 0) 34) ≡ true → FiveAt s at
 five-at s at e =
@@ -304,18 +281,6 @@ five-at s at e =
       last = eqb-true (getD s (at + 5) 0) 48 (and-right o l f);
       closes = eqb-true (getD s (at + 6) 0) 34 (and-right (o && l) c e);
     }
-
--- the tests that say so
-pub regular-parts : (five₁ five₂ : Bool) (a b c d : ℕ) → (((five₁ && five₂) && eqb a b) && eqb c d) ≡ true
-    → (five₁ ≡ true) × (five₂ ≡ true) × (a ≡ b) × (c ≡ d)
-regular-parts five₁ five₂ a b c d e =
-    let f = and-left ((five₁ && five₂) && eqb a b) (eqb c d) e in
-    let g = and-left (five₁ && five₂) (eqb a b) f in (
-      and-left five₁ five₂ g,
-      and-right five₁ five₂ g,
-      eqb-true a b (and-right (five₁ && five₂) (eqb a b) f),
-      eqb-true c d (and-right ((five₁ && five₂) && eqb a b) (eqb c d) e),
-    )
 
 -- ---- what is said, case by case
 

@@ -16,7 +16,7 @@ use Rattle.reader.specs.declared.power.Power.the-variants.{Is}
 use Rattle.reader.specs.declared.tally.LinePower.{LinePower}
 use Rattle.reader.specs.declared.tally.LinePower.the-variants.{Gives}
 use Rattle.reader.specs.declared.tally.Tally.{Tally}
-use Rattle.reader.specs.Folding.{Taken, stepTaken, takeAll, noSteps}
+use Rattle.reader.specs.Folding.{Taken, stepTaken, takeAll}
 use Rattle.request.specs.Tokens.{quoted, tokens}
 use Rattle.request.specs.Objects.{Step}
 use Rattle.request.specs.Reading.{isLabelByte, isRun, stepsIn}
@@ -25,7 +25,7 @@ use Rattle.request.proofs.Fits.{quoted-made}
 use Rattle.request.proofs.Unquoted.{hour-label}
 use Rattle.request_reader.specs.Walking.{starts}
 use Rattle.request_reader.specs.Steps.{frontTests, frontOf, stepIn, powerOf, saidOf, saidBy, saidAt, FrontAt}
-use Rattle.request_reader.specs.Series.{countOf, isSeries, isRest, stepsRest, betweenSteps, firstStep, tellAll, Told, Onward}
+use Rattle.request_reader.specs.Series.{countOf, isSeries, isRest, stepsRest, betweenSteps, firstStep, tellAll, Told, Onward, NextStep}
 use Rattle.request_reader.proofs.StepReads.{said-run}
 use Rattle.request_reader.proofs.StepSeries.{first-front, rest-front}
 
@@ -98,43 +98,40 @@ module _ (from until digits : List ℕ) where
       let d = and-right (ltb 0 (length digits)) (every isDigit digits) r in
       rw (same-refl (quoted from), same-refl (quoted until)) (ap (saidOf true) (sym p) ∙ said-run true digits d)
 
--- what a power of a step of the day is told as, after no fault
+-- what is kept after a step of the day that gives a power, after no fault
+abbrev pub oneTold : Tally → List ℕ → ℕ → Taken
+oneTold t ps v = record { tally = record { lines = t .lines + 1; verdict = Pass; any = t .any || not (eqb v 0) }; powers = set ps (t .lines) v }
+
 power-told : (steps v : ℕ) (t : Tally) (ps : List ℕ) (said : LinePower)
     → t .verdict ≡ Pass → t .lines < steps → steps ≤ places → Gives v ≡ said
-    → _≡_ {A = Taken}
-    (record { tally = record { lines = t .lines + 1; verdict = t .verdict; any = t .any || not (eqb v 0) }; powers = set ps (t .lines) v })
-    (stepTaken firstStep steps (record { tally = t; powers = ps }) said)
+    → oneTold t ps v ≡ stepTaken firstStep steps (record { tally = t; powers = ps }) said
 power-told steps v t ps said p h g e =
     let m : min (t .lines + 1) 51 ≡ t .lines + 1 = omega arith in
     rw (← e, p, lt-leb steps (t .lines) h, m)
 
-pub front-onward : (steps : ℕ) (s : List ℕ) (at next v : ℕ) (t : Tally) (ps : List ℕ)
-    → t .verdict ≡ Pass → t .lines < steps → steps ≤ places
-    → FrontAt betweenSteps (hourLabel steps (t .lines)) (hourLabel steps (suc (t .lines))) s at next v
-    → Onward steps s at (record { tally = t; powers = ps }) next
-    (record { tally = record { lines = t .lines + 1; verdict = t .verdict; any = t .any || not (eqb v 0) }; powers = set ps (t .lines) v })
-unfolding saidAt
-front-onward steps s at next v t ps p h g f =
-    let from = hourLabel steps (t .lines) in
-    let until = hourLabel steps (suc (t .lines)) in
-    let said = front-said from until (f .digits) v (length (f .digits) + 1) (f .run) (f .its-power) in
-    step-onward steps s at next _ _ (frontOf from until (f .digits) ++ tokens (drop next s))
-    (front-starts from until (f .digits) (tokens (drop next s)) (hour-label steps (t .lines)) (hour-label steps (suc (t .lines))) (f .run))
-    refl
-    (power-told steps v t ps _ p h g said)
-    (f .its-tokens)
+module _ (steps : ℕ) (s : List ℕ) (at next v : ℕ) (t : Tally) (ps : List ℕ) (p : t .verdict ≡ Pass) (h : t .lines < steps) (g : steps ≤ places)
+    (lead : List (List ℕ)) (f : FrontAt lead (hourLabel steps (t .lines)) (hourLabel steps (suc (t .lines))) s at next v) where
+  abbrev front : List (List ℕ)
+  front = frontOf (hourLabel steps (t .lines)) (hourLabel steps (suc (t .lines))) (f .digits) ++ tokens (drop next s)
 
-pub front-told : (steps : ℕ) (s : List ℕ) (at next v : ℕ) (ps : List ℕ) → 1 ≤ steps → steps ≤ places
-    → FrontAt [] (hourLabel steps 0) (hourLabel steps 1) s at next v
-    → Told steps s at (record { tally = noSteps; powers = ps }) next
-    (record { tally = record { lines = 1; verdict = Pass; any = not (eqb v 0) }; powers = set ps 0 v })
-unfolding saidAt
-front-told steps s at next v ps h g f =
-    let from = hourLabel steps 0 in
-    let until = hourLabel steps 1 in
-    let said = front-said from until (f .digits) v (length (f .digits) + 1) (f .run) (f .its-power) in
-    step-told steps s at next _ _ (frontOf from until (f .digits) ++ tokens (drop next s))
-    (front-starts from until (f .digits) (tokens (drop next s)) (hour-label steps 0) (hour-label steps 1) (f .run))
-    refl
-    (power-told steps v noSteps ps _ refl (omega arith) g said)
-    (f .its-tokens)
+  front-begins : starts frontTests front ≡ true
+  front-begins =
+      front-starts (hourLabel steps (t .lines)) (hourLabel steps (suc (t .lines))) (f .digits) (tokens (drop next s))
+      (hour-label steps (t .lines)) (hour-label steps (suc (t .lines))) (f .run)
+
+  front-told : oneTold t ps v ≡ stepTaken firstStep steps (record { tally = t; powers = ps }) (saidAt steps (t .lines) (stepIn front))
+  unfolding saidAt
+  front-told =
+      power-told steps v t ps _ p h g
+      (front-said (hourLabel steps (t .lines)) (hourLabel steps (suc (t .lines))) (f .digits) v (length (f .digits) + 1) (f .run) (f .its-power))
+
+  pub front-onward : lead ≡ betweenSteps → Onward steps s at (record { tally = t; powers = ps }) next (oneTold t ps v)
+  front-onward e = step-onward steps s at next _ _ front front-begins refl front-told (rw e at (f .its-tokens))
+
+  pub front-next : lead ≡ [] → NextStep steps s at next (record { tally = t; powers = ps }) (oneTold t ps v)
+  front-next e =
+      let d : tokens (drop at s) ≡ front = rw e at (f .its-tokens) in
+      record {
+        walked = record { found = λ i. (rw d front-begins, rw d); lost = λ i. absurd (omega (arith, f .within)) };
+        its-tally = λ i. rw d front-told;
+      }

@@ -15,9 +15,9 @@ use Rattle.request.specs.Tokens.{inside, is, quotedBy}
 use Rattle.request.specs.Moments.{isMomentText, momentIn}
 use Rattle.request.specs.Writing.{objectMost}
 use Rattle.request.proofs.MomentTexts.{moment-back, moment-length}
-use Rattle.request_reader.specs.Walking.{Past, Walked, Opened, Membered, firstToken, isPlain, framed, between}
+use Rattle.request_reader.specs.Walking.{Past, Walked, Opened, Valued, firstToken, isPlain, framed, between}
 use Rattle.request.proofs.Fits.{quoted-back}
-use Rattle.request_reader.proofs.Values.{framed-parts, value-framed, member-found, member-lost}
+use Rattle.request_reader.proofs.Values.{framed-parts, value-framed, valued-found, valued-lost}
 
 and-none : (a : Bool) → (a && false) ≡ false
 and-none true = refl
@@ -72,23 +72,23 @@ category-long s at from p e =
 -- ---- a member's value as the reader cuts it out
 
 module _ (form : List ℕ → Bool) (plain : (u : List ℕ) → form u ≡ true → every isPlain u ≡ true) {A : Type 0} (value : List ℕ → A)
-    (name s : List ℕ) (at from : ℕ) (o : Opened name s at from) (n : ℕ)
+    (s : List ℕ) (at from : ℕ) (o : Opened (is (58 ∷ []) ∷ []) s at from) (n : ℕ)
     (long : quotedBy form (firstToken s from) ≡ true → length (inside (firstToken s from)) ≡ n)
     (part : List ℕ) (its-part : part ≡ between s from n) where
   pub part-found : (f g : Bool) (after next : ℕ) (read : A) → f ≡ framed s from n → f ≡ true → g ≡ form part → g ≡ true
-      → after ≡ from + n + 2 → Walked (is (44 ∷ []) ∷ []) s after next → read ≡ value part → Membered name form value s at next read
+      → after ≡ from + n + 2 → Walked (is (44 ∷ []) ∷ []) s after next → (next ≤ length s → read ≡ value part) → Valued form value s at next read
   part-found f g after next read ef tf eg tg ea w r =
       let c : form (between s from n) ≡ true = ap form (sym its-part) ∙ (sym eg ∙ tg) in
-      member-found name form s at from o value n next read (sym ef ∙ tf) c (plain (between s from n) c)
-      (subst (λ (k : ℕ). Walked (is (44 ∷ []) ∷ []) s k next) ea w) (r ∙ ap value its-part)
+      valued-found form s at from o value n next read (sym ef ∙ tf) c (plain (between s from n) c)
+      (subst (λ (k : ℕ). Walked (is (44 ∷ []) ∷ []) s k next) ea w) (λ h. r h ∙ ap value its-part)
 
-  pub part-unframed : (f : Bool) (read : A) → f ≡ framed s from n → f ≡ false → length s ≤ objectMost → Membered name form value s at 8193 read
-  part-unframed f read ef tf h = member-lost name form s at from o value n read long (rw (sym ef ∙ tf)) h
+  pub part-unframed : (f : Bool) (read : A) → f ≡ framed s from n → f ≡ false → length s ≤ objectMost → Valued form value s at 8193 read
+  part-unframed f read ef tf h = valued-lost form s at from o value n read long (rw (sym ef ∙ tf)) h
 
-  pub part-other : (g : Bool) (read : A) → g ≡ form part → g ≡ false → length s ≤ objectMost → Membered name form value s at 8193 read
+  pub part-other : (g : Bool) (read : A) → g ≡ form part → g ≡ false → length s ≤ objectMost → Valued form value s at 8193 read
   part-other g read eg tg h =
       let c : form (between s from n) ≡ false = ap form (sym its-part) ∙ (sym eg ∙ tg) in
-      member-lost name form s at from o value n read long (rw c (and-none (framed s from n))) h
+      valued-lost form s at from o value n read long (rw c (and-none (framed s from n))) h
 
 -- a part from the byte after a place on, as the reader cuts it
 pub part-cut : (s : List ℕ) (from n end : ℕ) → end ≡ from + n + 1 → take (end - (from + 1)) (drop (from + 1) s) ≡ between s from n

@@ -16,9 +16,9 @@ use Rattle.lists.proofs.Searches.{same-refl}
 use Rattle.request.specs.Tokens.{quote, quoted, inside, tokens, is, quotedBy}
 use Rattle.request.specs.Writing.{objectMost}
 use Rattle.request.proofs.Fits.{inside-quoted, quoted-back}
-use Rattle.request_reader.specs.Walking.{starts, Past, Walked, Opened, Membered, firstToken, isPlain, framed, between, memberTests}
+use Rattle.request_reader.specs.Walking.{Past, Walked, Opened, Valued, firstToken, isPlain, framed, between}
 use Rattle.request_reader.proofs.Fronts.{tokens-quoted}
-use Rattle.request_reader.proofs.Walks.{stands-split, stands-inside, walked-found, walked-lost, token-stands, walked-on, nowhere}
+use Rattle.request_reader.proofs.Walks.{stands-split, stands-inside, walked-found, walked-lost, token-stands, walked-on, nowhere, walked-nowhere}
 
 -- ---- between quotes
 
@@ -123,47 +123,46 @@ module _ (form : List ℕ → Bool) (s : List ℕ) (at from : ℕ) (p : Past s a
       true-false (framed s from n && form (between s from n)) (and-true (framed s from n) (form (between s from n)) x (ap form y ∙ v .2)) e)
       (λ f. f)) h
 
--- ---- a member
+-- ---- a value after other tokens
 
-pub walked-nowhere : (q : List ℕ → Bool) (qs : List (List ℕ → Bool)) (s : List ℕ) → length s ≤ objectMost → Walked (q ∷ qs) s 8193 8193
-unfolding starts
-walked-nowhere q qs s h =
-    record {
-      found = λ i. absurd (omega arith);
-      lost = λ i. rw (nowhere s 8193 i);
-    }
+-- the token after those that were passed is the value's
+pub value-token : (ps : List (List ℕ → Bool)) (s : List ℕ) (at from : ℕ) → Opened ps s at from → (t : List ℕ) (ts : List (List ℕ))
+    → tokens (drop from s) ≡ t ∷ ts → getD (tokens (drop at s)) (length ps) [] ≡ t
+value-token ps s at from o t ts e =
+    by-test (ltb (length s) (o .mid))
+    (λ k. absurd (no-token (sym (o .past .same-tokens ∙ nowhere s (o .mid) (ltb-true (length s) (o .mid) k)) ∙ e)))
+    (λ k. let f = o .walked .found (ltb-false (length s) (o .mid) k) .1 in
+    sym (rw (add-zero (length ps)) at (getD-drop (length ps) (tokens (drop at s)) 0 []))
+    ∙ ap (λ (x : List (List ℕ)). getD x 0 []) (sym f ∙ (sym (o .past .same-tokens) ∙ e)))
+  where
+    no-token : _≡_ {A = List (List ℕ)} [] (t ∷ ts) → ⊥
+    no-token q = omega (arith, ap length q)
 
-module _ (name : List ℕ) (form : List ℕ → Bool) (s : List ℕ) (at from : ℕ) (o : Opened name s at from) where
-  pub member-walked : (mid next : ℕ) → Walked (quotedBy form ∷ []) s (o .mid) mid → Walked (is (44 ∷ []) ∷ []) s mid next → Walked (memberTests name (quotedBy form)) s at next
-  member-walked mid next v w =
-      walked-on (is name ∷ is (58 ∷ []) ∷ quotedBy form ∷ []) (is (44 ∷ [])) [] s at mid next
-      (walked-on (is name ∷ is (58 ∷ []) ∷ []) (quotedBy form) [] s at (o .mid) mid (o .named) v) w
+-- ---- a member from after its name on
 
-  -- the third token is the value's
-  pub member-token : (t : List ℕ) (ts : List (List ℕ)) → tokens (drop from s) ≡ t ∷ ts → getD (tokens (drop at s)) 2 [] ≡ t
-  member-token t ts e =
-      by-test (ltb (length s) (o .mid))
-      (λ k. absurd (no-token (sym (o .past .same-tokens ∙ nowhere s (o .mid) (ltb-true (length s) (o .mid) k)) ∙ e)))
-      (λ k. let f = o .named .found (ltb-false (length s) (o .mid) k) .1 in
-      sym (getD-drop 2 (tokens (drop at s)) 0 []) ∙ (ap (λ (x : List (List ℕ)). getD x 0 []) (sym f ∙ (sym (o .past .same-tokens) ∙ e))))
-    where
-      no-token : _≡_ {A = List (List ℕ)} [] (t ∷ ts) → ⊥
-      no-token q = omega (arith, ap length q)
+module _ (form : List ℕ → Bool) (s : List ℕ) (at from : ℕ) (o : Opened (is (58 ∷ []) ∷ []) s at from) where
+  valued-walked : (mid next : ℕ) → Walked (quotedBy form ∷ []) s (o .mid) mid → Walked (is (44 ∷ []) ∷ []) s mid next
+      → Walked (is (58 ∷ []) ∷ quotedBy form ∷ is (44 ∷ []) ∷ []) s at next
+  valued-walked mid next v w =
+      walked-on (is (58 ∷ []) ∷ quotedBy form ∷ []) (is (44 ∷ [])) [] s at mid next
+      (walked-on (is (58 ∷ []) ∷ []) (quotedBy form) [] s at (o .mid) mid (o .walked) v) w
 
   module _ {A : Type 0} (value : List ℕ → A) (n : ℕ) where
-    pub member-found : (next : ℕ) (read : A) → framed s from n ≡ true → form (between s from n) ≡ true → every isPlain (between s from n) ≡ true
-        → Walked (is (44 ∷ []) ∷ []) s (from + n + 2) next → read ≡ value (between s from n) → Membered name form value s at next read
-    member-found next read e g f w r =
+    pub valued-found : (next : ℕ) (read : A) → framed s from n ≡ true → form (between s from n) ≡ true → every isPlain (between s from n) ≡ true
+        → Walked (is (44 ∷ []) ∷ []) s (from + n + 2) next → (next ≤ length s → read ≡ value (between s from n)) → Valued form value s at next read
+    valued-found next read e g f w r =
         let k = value-tokens form s (o .mid) from (o .past) n e f in
         record {
-          walked = member-walked (from + n + 2) next (value-found form s (o .mid) from (o .past) n e g f) w;
-          its-value = λ i. r ∙ ap value (sym (ap inside (member-token (quoted (between s from n)) (tokens (drop (from + n + 2) s)) k) ∙ inside-quoted (between s from n)));
+          walked = valued-walked (from + n + 2) next (value-found form s (o .mid) from (o .past) n e g f) w;
+          its-value = λ i.
+              r i
+              ∙ ap value (sym (ap inside (value-token (is (58 ∷ []) ∷ []) s at from o (quoted (between s from n)) (tokens (drop (from + n + 2) s)) k) ∙ inside-quoted (between s from n)));
         }
 
-    pub member-lost : (read : A) → (quotedBy form (firstToken s from) ≡ true → length (inside (firstToken s from)) ≡ n)
-        → (framed s from n && form (between s from n)) ≡ false → length s ≤ objectMost → Membered name form value s at 8193 read
-    member-lost read k e h =
+    pub valued-lost : (read : A) → (quotedBy form (firstToken s from) ≡ true → length (inside (firstToken s from)) ≡ n)
+        → (framed s from n && form (between s from n)) ≡ false → length s ≤ objectMost → Valued form value s at 8193 read
+    valued-lost read k e h =
         record {
-          walked = member-walked 8193 8193 (value-lost form s (o .mid) from (o .past) n k e h) (walked-nowhere (is (44 ∷ [])) [] s h);
+          walked = valued-walked 8193 8193 (value-lost form s (o .mid) from (o .past) n k e h) (walked-nowhere (is (44 ∷ [])) [] s 8193 8193 (omega arith) (omega arith));
           its-value = λ i. absurd (omega arith);
         }

@@ -18,6 +18,7 @@ use Rattle.reader.specs.Walking.{startsWith}
 use Rattle.reader.proofs.Starts.{starts-true, starts-long}
 use Rattle.request.specs.Tokens.{isBlank, quote, quoted, inside, tokensFrom, tokens, is}
 use Rattle.request.specs.Writing.{objectMost}
+use Rattle.request.proofs.Fits.{inside-quoted}
 use Rattle.request_reader.specs.Walking.{starts, Past, Walked, firstToken, isMark, isPlain, isQuoted}
 use Rattle.request_reader.proofs.Fronts.{tokens-blank, tokens-mark, tokens-quoted, first-stands}
 
@@ -88,6 +89,22 @@ unfolding isMark
 mark-some b e z =
     true-false (eqb b 0) (eq-eqb b 0 z) (or-right (isBlank b || eqb b quote || isDigit b) (eqb b 0) (not-true (isBlank b || eqb b quote || isDigit b || eqb b 0) e))
 
+pub comma : isMark 44 ≡ true
+unfolding isMark
+comma = refl
+
+pub colon : isMark 58 ≡ true
+unfolding isMark
+colon = refl
+
+pub bracket : isMark 91 ≡ true
+unfolding isMark
+bracket = refl
+
+pub brace : isMark 123 ≡ true
+unfolding isMark
+brace = refl
+
 is-none : (x : ℕ) (t : List ℕ) → is (x ∷ t) [] ≡ false
 unfolding same
 is-none x t = refl
@@ -139,6 +156,10 @@ module _ (t : List ℕ) (q : isQuoted t ≡ true) where
 
   text-none : is t [] ≡ false
   text-none = rw its-quotes (quoted-some (inside t))
+
+pub quoted-is : (t : List ℕ) → every isPlain t ≡ true → isQuoted (quoted t) ≡ true
+unfolding isQuoted
+quoted-is t e = rw (inside-quoted t, same-refl (quoted t), e)
 
 pub quoted-first : (t r : List ℕ) → isQuoted t ≡ true → tokens (t ++ r) ≡ t ∷ tokens r
 quoted-first t r q =
@@ -198,3 +219,40 @@ walked-on ps q qs s at mid next v w =
       found = λ i. (split ∙ rw (f .0, ← f .1) (w .found i .0), w .found i .1 ∙ (ap (drop (length (q ∷ qs))) (f .1) ∙ (drop-drop (length (q ∷ qs)) (length ps) ts ∙ ap (λ (n : ℕ). drop n ts) (sym (length-append ps (q ∷ qs))))));
       lost = λ i. split ∙ rw (f .0, ← f .1) (w .lost i);
     })
+
+-- a walk from past the end goes on past it
+pub walked-nowhere : (q : List ℕ → Bool) (qs : List (List ℕ → Bool)) (s : List ℕ) (at next : ℕ) → length s < at → length s < next
+    → Walked (q ∷ qs) s at next
+unfolding starts
+walked-nowhere q qs s at next h g =
+    record {
+      found = λ i. absurd (omega arith);
+      lost = λ i. rw (nowhere s at h);
+    }
+
+-- where a token doesn't pass its test, nothing after it is looked at
+pub walked-astray : (q : List ℕ → Bool) (qs : List (List ℕ → Bool)) (s : List ℕ) (at : ℕ) → length s ≤ objectMost → Walked (q ∷ []) s at 8193
+    → Walked (q ∷ qs) s at 8193
+walked-astray q [] s at h w = w
+walked-astray q (r ∷ rs) s at h w = walked-on (q ∷ []) r rs s at 8193 8193 w (walked-nowhere r rs s 8193 8193 (omega arith) (omega arith))
+
+-- ---- one token after others
+
+module _ (ps : List (List ℕ → Bool)) (s : List ℕ) (at mid from : ℕ) (v : Walked ps s at mid) (p : Past s mid from) where
+  pub mark-next : (b : ℕ) → isMark b ≡ true → getD s from 0 ≡ b → Walked (ps ++ is (b ∷ []) ∷ []) s at (from + 1) × (from + 1 ≤ length s)
+  mark-next b m e =
+      let i = mark-inside s mid from b p m e in
+      (walked-on ps (is (b ∷ [])) [] s at mid (from + 1) v (mark-found s mid from b p m e), omega arith)
+
+  pub text-next : (t : List ℕ) → isQuoted t ≡ true → startsWith t (drop from s) ≡ true
+      → Walked (ps ++ is t ∷ []) s at (from + length t) × (from + length t ≤ length s)
+  text-next t q e =
+      (walked-on ps (is t) [] s at mid (from + length t) v (text-found s mid from t p q e), stands-inside s t from (text-long t q) e)
+
+  pub mark-missing : (b : ℕ) (qs : List (List ℕ → Bool)) → isMark b ≡ true → (getD s from 0 ≡ b → ⊥) → length s ≤ objectMost
+      → Walked (ps ++ is (b ∷ []) ∷ qs) s at 8193
+  mark-missing b qs m f h = walked-on ps (is (b ∷ [])) qs s at mid 8193 v (walked-astray (is (b ∷ [])) qs s mid h (mark-lost s mid from b p m f h))
+
+  pub text-missing : (t : List ℕ) (qs : List (List ℕ → Bool)) → isQuoted t ≡ true → startsWith t (drop from s) ≡ false → length s ≤ objectMost
+      → Walked (ps ++ is t ∷ qs) s at 8193
+  text-missing t qs q e h = walked-on ps (is t) qs s at mid 8193 v (walked-astray (is t) qs s mid h (text-lost s mid from t p q e h))

@@ -16,7 +16,7 @@ use Rattle.request.specs.Objects.{Step, fromName, untilName, powerName}
 use Rattle.request.specs.Writing.{hourLabel}
 use Rattle.request.specs.Reading.{isLabelByte, isRun, ended}
 use Rattle.notification.specs.Forms.{isDigit}
-use Rattle.request_reader.specs.declared.step.Layout.{Layout}
+use Rattle.request_reader.specs.declared.layouts.Layout.{Layout}
 use Rattle.request_reader.specs.Walking.{Walked, part, Passed}
 
 -- a label's member, without the comma after it
@@ -118,6 +118,11 @@ abbrev pub RunSays : List ℕ → ℕ → Power → Type 0
 RunSays s at (Is v n) = RunAt s at v n
 RunSays s at Not = Unit {0}
 
+-- what is said of a step that is laid out so: the digits of its power, where two labels of a list stand in it
+abbrev pub OwnSays : List ℕ → ℕ → List ℕ → Layout → Power → Type 0
+OwnSays t i s l (Is v n) = (part (l .first + 1) 4 s ≡ part (i + 4) 4 t) × (part (l .second + 1) 4 s ≡ part (i + 14) 4 t) × RunAt s (l .power) v n
+OwnSays t i s l Not = Unit {0}
+
 -- A STEP AT ONCE
 
 -- from a place on stand these tokens and a step up to its power, which ends at the next place
@@ -140,16 +145,16 @@ pub record LabelEntry (t : List ℕ) (i : ℕ) : Type 0 where
   pub last : getD t (i + 8) 0 ≡ 48
   pub closes : getD t (i + 9) 0 ≡ 34
 
--- 16 to 32 bytes stand between two places
-pub record Between (from to : ℕ) : Type 0 where
+-- 16 bytes at least and so many at most stand between two places
+pub record Between (most from to : ℕ) : Type 0 where
   pub least : from + 16 ≤ to
-  pub most : to ≤ from + 32
+  pub upto : to ≤ from + most
 
--- as many stand from a step's lead to its first label, from the last byte of that to the second, and from the last byte of this to its power
+-- so many stand from a step's lead to its first label, from the last byte of that to the second, and from the last byte of this to its power
 pub record Wide (lead : ℕ) (l : Layout) : Type 0 where
-  pub to-from : Between lead (l .first + 1)
-  pub to-until : Between (l .first + 5) (l .second + 1)
-  pub to-power : Between (l .second + 5) (l .power)
+  pub to-from : Between 32 lead (l .first + 1)
+  pub to-until : Between 24 (l .first + 5) (l .second + 1)
+  pub to-power : Between 24 (l .second + 5) (l .power)
 
 -- `t":"hhhmm"` of each half hour from 00h00 to the end of the day, one after another
 unfoldable pub labelList : List ℕ

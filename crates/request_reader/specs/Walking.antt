@@ -63,10 +63,10 @@ isQuoted t = same t (quoted (inside t)) && every isPlain (inside t)
 
 -- MEMBERS
 
--- past a member's name and its colon
-pub record Opened (name s : List ℕ) (at from : ℕ) : Type 0 where
+-- past tokens that pass the tests and the blanks after them
+pub record Opened (ps : List (List ℕ → Bool)) (s : List ℕ) (at from : ℕ) : Type 0 where
   pub mid : ℕ
-  pub named : Walked (is name ∷ is (58 ∷ []) ∷ []) s at mid
+  pub walked : Walked ps s at mid
   pub past : Past s mid from
 
 -- so many bytes stand between quotes at a place
@@ -77,14 +77,14 @@ framed s from n = not (ltb (length s) (from + n + 2)) && (eqb (getD s from 0) qu
 abbrev pub between : List ℕ → ℕ → ℕ → List ℕ
 between s from n = take n (drop (from + 1) s)
 
+-- a member from after its name on: a quoted value of a form, with the colon before it and the comma after it, and what was read is by it
+pub record Valued {A : Type 0} (form : List ℕ → Bool) (value : List ℕ → A) (s : List ℕ) (at next : ℕ) (read : A) : Type 0 where
+  pub walked : Walked (is (58 ∷ []) ∷ quotedBy form ∷ is (44 ∷ []) ∷ []) s at next
+  pub its-value : next ≤ length s → read ≡ value (inside (getD (tokens (drop at s)) 1 []))
+
 -- a member with the comma after it
 abbrev pub memberTests : List ℕ → (List ℕ → Bool) → List (List ℕ → Bool)
 memberTests name value = is name ∷ is (58 ∷ []) ∷ value ∷ is (44 ∷ []) ∷ []
-
--- a member of a quoted value of a form stands at a place, and what was read is by its value
-pub record Membered {A : Type 0} (name : List ℕ) (form : List ℕ → Bool) (value : List ℕ → A) (s : List ℕ) (at next : ℕ) (read : A) : Type 0 where
-  pub walked : Walked (memberTests name (quotedBy form)) s at next
-  pub its-value : next ≤ length s → read ≡ value (inside (getD (tokens (drop at s)) 2 []))
 
 -- A MOMENT'S TWENTY BYTES
 

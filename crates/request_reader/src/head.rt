@@ -12,10 +12,11 @@ use crate::members::code_member;
 use crate::members::moment_member;
 use crate::moments::moment_of;
 use crate::tokens::NOWHERE;
-use crate::tokens::after_mark;
-use crate::tokens::after_text;
+use crate::tokens::past_blanks;
 use crate::tokens::stands;
+use crate::words::eight_at;
 use crate::words::same_text;
+use lists::bytes::byte_at;
 use notification::forms::is_category;
 use notification::forms::is_code;
 use notification::forms::six;
@@ -51,9 +52,19 @@ fn is_plain(s: &[u8]) -> bool
     if !same_text(s, 0, b"{\"CodeEicActeurCedant\":\"") {
         return false;
     }
-    same_text(s, 40, b"\",\"CodeEicActeurAcquereur\":\"")
-        & same_text(s, 84, b"\",\"CodeEicActeurOrigine\":\"")
-        & same_text(s, 126, b"\",")
+    if !(eight_at(s, 40, b"\",\"CodeE", 0)
+        & eight_at(s, 48, b"icActeur", 0)
+        & eight_at(s, 56, b"Acquereu", 0)
+        & eight_at(s, 60, b"ereur\":\"", 0)) {
+        return false;
+    }
+    if !(eight_at(s, 84, b"\",\"CodeE", 0)
+        & eight_at(s, 92, b"icActeur", 0)
+        & eight_at(s, 100, b"Origine\"", 0)
+        & eight_at(s, 102, b"igine\":\"", 0)) {
+        return false;
+    }
+    (s[126] == b'"') & (s[127] == b',')
 }
 
 // `{` and the members of the three codes.
@@ -74,10 +85,31 @@ pub(crate) fn take_parties(s: &[u8]) -> Parties
             };
         }
     }
-    let at = after_mark(s, 0, b'{');
-    let first = code_member(s, at, b"\"CodeEicActeurCedant\"");
-    let second = code_member(s, first.at, b"\"CodeEicActeurAcquereur\"");
-    let third = code_member(s, second.at, b"\"CodeEicActeurOrigine\"");
+    let none = Parties {
+        ceder: [0; 16],
+        acquirer: [0; 16],
+        origin: [0; 16],
+        at: NOWHERE,
+    };
+    let open = past_blanks(s, 0);
+    if byte_at(s, open) != b'{' {
+        return none;
+    }
+    let cedant = past_blanks(s, open + 1);
+    if !stands(s, cedant, b"\"CodeEicActeurCedant\"") {
+        return none;
+    }
+    let first = code_member(s, cedant + 21);
+    let acquereur = past_blanks(s, first.at);
+    if !stands(s, acquereur, b"\"CodeEicActeurAcquereur\"") {
+        return none;
+    }
+    let second = code_member(s, acquereur + 24);
+    let origine = past_blanks(s, second.at);
+    if !stands(s, origine, b"\"CodeEicActeurOrigine\"") {
+        return none;
+    }
+    let third = code_member(s, origine + 22);
     let ceder = first.code;
     let acquirer = second.code;
     let origin = third.code;
@@ -163,9 +195,21 @@ pub(crate) fn take_terms(s: &[u8], at: usize) -> Terms
     if plain.at <= s.len() {
         return plain;
     }
-    let first = category_member(s, at, b"\"NomCategorieEngagement\"");
-    let second = moment_member(s, first.at, b"\"DateExploitation\"", 0);
-    let third = moment_member(s, second.at, b"\"DateSoumission\"", LAST_SECOND);
+    let categorie = past_blanks(s, at);
+    if !stands(s, categorie, b"\"NomCategorieEngagement\"") {
+        return no_terms();
+    }
+    let first = category_member(s, categorie + 24);
+    let exploitation = past_blanks(s, first.at);
+    if !stands(s, exploitation, b"\"DateExploitation\"") {
+        return no_terms();
+    }
+    let second = moment_member(s, exploitation + 18, 0);
+    let soumission = past_blanks(s, second.at);
+    if !stands(s, soumission, b"\"DateSoumission\"") {
+        return no_terms();
+    }
+    let third = moment_member(s, soumission + 16, LAST_SECOND);
     let category = first.category;
     let day = second.moment;
     let submitted = third.moment;
@@ -185,11 +229,33 @@ pub(crate) fn series_from(s: &[u8], at: usize) -> usize
     if stands(s, at, b"\"Statut\":\"C\",\"Chronique\":[") {
         return at + 26;
     }
-    let at = after_text(s, at, b"\"Statut\"");
-    let at = after_mark(s, at, b':');
-    let at = after_text(s, at, b"\"C\"");
-    let at = after_mark(s, at, b',');
-    let at = after_text(s, at, b"\"Chronique\"");
-    let at = after_mark(s, at, b':');
-    after_mark(s, at, b'[')
+    let statut = past_blanks(s, at);
+    if !stands(s, statut, b"\"Statut\"") {
+        return NOWHERE;
+    }
+    let first_colon = past_blanks(s, statut + 8);
+    if byte_at(s, first_colon) != b':' {
+        return NOWHERE;
+    }
+    let created = past_blanks(s, first_colon + 1);
+    if !stands(s, created, b"\"C\"") {
+        return NOWHERE;
+    }
+    let comma = past_blanks(s, created + 3);
+    if byte_at(s, comma) != b',' {
+        return NOWHERE;
+    }
+    let chronique = past_blanks(s, comma + 1);
+    if !stands(s, chronique, b"\"Chronique\"") {
+        return NOWHERE;
+    }
+    let second_colon = past_blanks(s, chronique + 11);
+    if byte_at(s, second_colon) != b':' {
+        return NOWHERE;
+    }
+    let bracket = past_blanks(s, second_colon + 1);
+    if byte_at(s, bracket) != b'[' {
+        return NOWHERE;
+    }
+    bracket + 1
 }

@@ -2,6 +2,7 @@
 // which are never copied.
 pub mod cursor;
 mod head;
+mod layouts;
 mod members;
 mod moments;
 pub mod reading;

@@ -1,6 +1,6 @@
 // The members of an object that have a value of their own: codes, the category and the two dates, each with the comma
 // after it.
-ghost use mathlib.Core.Bool.{true, cond};
+ghost use mathlib.Core.Bool.{cond};
 ghost use mathlib.Core.Path.{_≡_};
 ghost use Prim.Native.Nat.{_≤_};
 ghost use lib.ListN.{length};
@@ -8,12 +8,13 @@ ghost use Rattle.notification.specs.Forms.{isCode, isCategory, sixBytes};
 ghost use Rattle.request.specs.Moments.{momentIn};
 ghost use Rattle.request.specs.Writing.{objectMost};
 ghost use Rattle.request_reader.specs.Heads.{isTimely};
-ghost use Rattle.request_reader.specs.Walking.{Membered, isQuoted, framed};
+ghost use Rattle.request_reader.specs.Walking.{Valued, framed};
 use crate::moments::moment_of;
 use crate::tokens::NOWHERE;
-use crate::tokens::after_mark;
 use crate::tokens::is_framed;
-use crate::tokens::value_from;
+use crate::tokens::past_blanks;
+use crate::tokens::value_at;
+use lists::bytes::byte_at;
 use notification::forms::is_category;
 use notification::forms::is_code;
 use notification::forms::six;
@@ -38,12 +39,12 @@ pub struct DatedRead {
     pub at: usize,
 }
 
-// The member of a code.
-pub(crate) fn code_member(s: &[u8], at: usize, name: &[u8]) -> CodeRead
-    requires { ⌜ (length (now s) ≤ objectMost) × (isQuoted (now name) ≡ true) ⌝ }
-    ensures { λ r. ⌜ Membered (now (name .entry)) isCode (λ t. t) (now (s .entry)) at (r .at) (r .code) ⌝ }
+// The member of a code, from after its name on.
+pub(crate) fn code_member(s: &[u8], at: usize) -> CodeRead
+    requires { ⌜ length (now s) ≤ objectMost ⌝ }
+    ensures { λ r. ⌜ Valued isCode (λ t. t) (now (s .entry)) at (r .at) (r .code) ⌝ }
 {
-    let from = value_from(s, at, name);
+    let from = value_at(s, at);
     let none = CodeRead {
         code: [0; 16],
         at: NOWHERE,
@@ -55,9 +56,13 @@ pub(crate) fn code_member(s: &[u8], at: usize, name: &[u8]) -> CodeRead
     if !is_code(code) {
         return none;
     }
+    let comma = past_blanks(s, from + 18);
+    if byte_at(s, comma) != b',' {
+        return none;
+    }
     CodeRead {
         code: sixteen(code),
-        at: after_mark(s, from + 18, b','),
+        at: comma + 1,
     }
 }
 
@@ -68,12 +73,12 @@ pub(crate) fn category_length(s: &[u8], from: usize) -> usize
     if is_framed(s, from, 5) { 5 } else { 6 }
 }
 
-// The member of the category.
-pub(crate) fn category_member(s: &[u8], at: usize, name: &[u8]) -> CategoryRead
-    requires { ⌜ (length (now s) ≤ objectMost) × (isQuoted (now name) ≡ true) ⌝ }
-    ensures { λ r. ⌜ Membered (now (name .entry)) isCategory sixBytes (now (s .entry)) at (r .at) (r .category) ⌝ }
+// The member of the category, from after its name on.
+pub(crate) fn category_member(s: &[u8], at: usize) -> CategoryRead
+    requires { ⌜ length (now s) ≤ objectMost ⌝ }
+    ensures { λ r. ⌜ Valued isCategory sixBytes (now (s .entry)) at (r .at) (r .category) ⌝ }
 {
-    let from = value_from(s, at, name);
+    let from = value_at(s, at);
     let n = category_length(s, from);
     let none = CategoryRead {
         category: [0; 6],
@@ -87,18 +92,22 @@ pub(crate) fn category_member(s: &[u8], at: usize, name: &[u8]) -> CategoryRead
     if !is_category(category) {
         return none;
     }
+    let comma = past_blanks(s, end + 1);
+    if byte_at(s, comma) != b',' {
+        return none;
+    }
     CategoryRead {
         category: six(category),
-        at: after_mark(s, end + 1, b','),
+        at: comma + 1,
     }
 }
 
-// The member of a date whose time is at most a second of the day.
-pub(crate) fn moment_member(s: &[u8], at: usize, name: &[u8], latest: u32) -> DatedRead
-    requires { ⌜ (length (now s) ≤ objectMost) × (isQuoted (now name) ≡ true) ⌝ }
-    ensures { λ r. ⌜ Membered (now (name .entry)) (isTimely latest) momentIn (now (s .entry)) at (r .at) (r .moment) ⌝ }
+// The member of a date, from after its name on, whose time is at most a second of the day.
+pub(crate) fn moment_member(s: &[u8], at: usize, latest: u32) -> DatedRead
+    requires { ⌜ length (now s) ≤ objectMost ⌝ }
+    ensures { λ r. ⌜ Valued (isTimely latest) momentIn (now (s .entry)) at (r .at) (r .moment) ⌝ }
 {
-    let from = value_from(s, at, name);
+    let from = value_at(s, at);
     let none = DatedRead {
         moment: Moment { day: 0, second: 0 },
         at: NOWHERE,
@@ -111,8 +120,12 @@ pub(crate) fn moment_member(s: &[u8], at: usize, name: &[u8], latest: u32) -> Da
     if !(read.good & (moment.second <= latest)) {
         return none;
     }
+    let comma = past_blanks(s, from + 22);
+    if byte_at(s, comma) != b',' {
+        return none;
+    }
     DatedRead {
         moment,
-        at: after_mark(s, from + 22, b','),
+        at: comma + 1,
     }
 }

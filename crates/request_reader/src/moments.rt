@@ -7,7 +7,7 @@ ghost use Rattle.calendar.specs.Texts.{dayOf};
 ghost use Rattle.request.specs.Moments.{isMomentText, momentIn};
 ghost use Rattle.request_reader.specs.Walking.{marksStand, dateDigits, timeIn};
 use calendar::Day;
-use calendar::day_of;
+use calendar::texts::day_at;
 use calendar::texts::pair;
 use request::Moment;
 
@@ -38,8 +38,12 @@ fn day_in(s: &[u8]) -> Day
     requires { ⌜ length (now s) ≡ 20 ⌝ }
     ensures { λ r. ⌜ r ≡ dayOf (dateDigits (now (s .entry))) ⌝ }
 {
-    let date = [s[0], s[1], s[2], s[3], s[5], s[6], s[8], s[9]];
-    day_of(&date)
+    day_at(
+        pair(s[0], s[1]),
+        pair(s[2], s[3]),
+        pair(s[5], s[6]),
+        pair(s[8], s[9]),
+    )
 }
 
 // The second of the time; as many as a day has where there is no such time.
@@ -63,8 +67,17 @@ pub(crate) fn moment_of(s: &[u8]) -> MomentRead
     ensures { λ r. ⌜ (r .good ≡ isMomentText (now (s .entry)))
         × (r .good ≡ true → r .moment ≡ momentIn (now (s .entry))) ⌝ }
 {
-    let marked = marks_stand(s);
+    let none = MomentRead {
+        good: false,
+        moment: Moment { day: 0, second: 0 },
+    };
+    if !marks_stand(s) {
+        return none;
+    }
     let time = time_in(s);
+    if DAY_SECONDS <= time {
+        return none;
+    }
     let day = day_in(s);
     match day {
         Day::Number(n) => {
@@ -72,14 +85,8 @@ pub(crate) fn moment_of(s: &[u8]) -> MomentRead
                 day: n,
                 second: time,
             };
-            MomentRead {
-                good: marked & (time < DAY_SECONDS),
-                moment,
-            }
+            MomentRead { good: true, moment }
         }
-        Day::NoDay => MomentRead {
-            good: false,
-            moment: Moment { day: 0, second: 0 },
-        },
+        Day::NoDay => none,
     }
 }

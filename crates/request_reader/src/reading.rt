@@ -2,8 +2,7 @@
 // and powers, in the place of 1 to 4, with 5 to 8 following".
 ghost use mathlib.Core.Path.{_≡_};
 ghost use lib.ListN.{drop};
-ghost use Rattle.refusals.specs.Tests.{decide};
-ghost use Rattle.request.specs.Reading.{accepted, refused, readObject};
+ghost use Rattle.request.specs.Reading.{refused, readObject};
 use crate::cursor::read;
 use crate::cursor::start;
 use crate::head::series_from;
@@ -13,8 +12,7 @@ use crate::series::take_series;
 use calendar::steps_of;
 use notification::Key;
 use notification::Notification;
-use notification::Reading;
-use reader::reading::judge;
+use reader::reading::outcome;
 use refusals::InputRefusal;
 use refusals::Refusal;
 use refusals::Verdict;
@@ -50,29 +48,6 @@ fn refuse(r: Refusal) -> RequestRead
     }
 }
 
-// What the steps come to, with the origin and the submission.
-fn conclude(read: Reading, origin: [u8; 16], moment: Moment) -> RequestRead
-    ensures { λ r. ⌜ r ≡ decide (read .verdict)
-        (accepted (record { notification = read .notification; origin = origin; moment = moment })) refused ⌝ }
-{
-    let verdict = read.verdict;
-    let notification = read.notification;
-    match verdict {
-        Verdict::No(r) => refuse(r),
-        Verdict::Pass => {
-            let request = Request {
-                notification,
-                origin,
-                moment,
-            };
-            RequestRead {
-                verdict: Verdict::Pass,
-                request,
-            }
-        }
-    }
-}
-
 // Reads an object: the request, or the first refusal of 42 and 5 to 8.
 fn read_text(body: &[u8]) -> RequestRead
     ensures { λ r. ⌜ r ≡ readObject (now (body .entry)) ⌝ }
@@ -93,20 +68,33 @@ fn read_text(body: &[u8]) -> RequestRead
     if !series.good {
         return refuse(Refusal::Input(InputRefusal::Object, 0));
     }
-    let ceder = parties.ceder;
-    let acquirer = parties.acquirer;
-    let category = terms.category;
-    let key = Key {
-        ceder,
-        acquirer,
-        category,
-        day,
-    };
-    let tally = series.tally;
-    let read = judge(key, steps, tally, powers);
-    let origin = parties.origin;
-    let moment = terms.submitted;
-    conclude(read, origin, moment)
+    let verdict = outcome(steps, series.tally);
+    match verdict {
+        Verdict::No(r) => refuse(r),
+        Verdict::Pass => {
+            let ceder = parties.ceder;
+            let acquirer = parties.acquirer;
+            let category = terms.category;
+            let key = Key {
+                ceder,
+                acquirer,
+                category,
+                day,
+            };
+            let notification = Notification { key, steps, powers };
+            let origin = parties.origin;
+            let moment = terms.submitted;
+            let request = Request {
+                notification,
+                origin,
+                moment,
+            };
+            RequestRead {
+                verdict: Verdict::Pass,
+                request,
+            }
+        }
+    }
 }
 
 // Reads the object that stands from a place on. Nothing stands past the end.

@@ -1,19 +1,19 @@
 // The steps of an object, and what closes it.
 ghost use mathlib.Core.Path.{_≡_};
-ghost use mathlib.Core.Bool.{true, false};
-ghost use mathlib.Core.List.{[], _∷_};
-ghost use Prim.Native.Nat.{_<_, _≤_};
+ghost use mathlib.Core.Bool.{true};
+ghost use Prim.Native.Nat.{_≤_};
 ghost use lib.ListN.{length, drop};
 ghost use Rattle.notification.specs.Forms.{places};
 ghost use Rattle.reader.specs.Folding.{noSteps, stepTaken};
-ghost use Rattle.request.specs.Tokens.{tokens, fits, is};
+ghost use Rattle.request.specs.Tokens.{tokens, fits};
 ghost use Rattle.request.specs.Writing.{objectMost};
-ghost use Rattle.request_reader.specs.Walking.{Passed, firstToken};
-ghost use Rattle.request_reader.specs.Steps.{LaidOut, beforeFrom};
-ghost use Rattle.request_reader.specs.Series.{closing, firstStep, betweenSteps, Told, Onward, NextStep, SeriesAt};
-use crate::runs::first_run;
+ghost use Rattle.request_reader.specs.Steps.{LaidOut, beforeFrom, labelList};
+ghost use Rattle.request_reader.specs.Series.{closing, firstStep, NextStep, SeriesAt};
+use crate::layouts::Layout;
+use crate::layouts::no_layout;
+use crate::runs::first_step;
+use crate::runs::listed_step;
 use crate::runs::steps_run;
-use crate::step::Layout;
 use crate::step::step_at;
 use crate::tokens::after_mark;
 use crate::tokens::past_blanks;
@@ -36,7 +36,7 @@ pub struct Stepped {
     pub at: usize,
 }
 
-// The same of a step read token by token, and how it is laid out.
+// The same, and how the step is laid out.
 pub struct StepTold {
     pub tally: Tally,
     pub at: usize,
@@ -61,13 +61,12 @@ fn tell(t: Tally, steps: u32, said: LinePower, powers: &mut [u16; 50]) -> Tally
     note(t, FIRST_STEP, said, powers)
 }
 
-// The next step, with the labels of its place in the day.
-fn next_step(s: &[u8], at: usize, t: Tally, steps: u32, powers: &mut [u16; 50]) -> StepTold
+// The next step token by token, with the labels of its place in the day.
+fn told_step(s: &[u8], at: usize, t: Tally, steps: u32, powers: &mut [u16; 50]) -> Stepped
     requires { ⌜ (length (now s) ≤ objectMost) × (1 ≤ steps) × (steps ≤ places) ⌝ }
     ensures { λ r. ⌜ NextStep steps (now (s .entry)) at (r .at)
         (record { tally = t; powers = now (powers .entry) })
         (record { tally = r .tally; powers = now (powers .exit) }) ⌝ }
-    ensures { λ r. ⌜ (r .layout .regular ≡ true → LaidOut beforeFrom (now (s .entry)) at (r .layout)) ⌝ }
 {
     let k = least(t.lines, steps);
     let from = hour_label(steps, k);
@@ -78,11 +77,42 @@ fn next_step(s: &[u8], at: usize, t: Tally, steps: u32, powers: &mut [u16; 50]) 
     let n = until.len as usize;
     let step = step_at(s, at, &from_bytes[..m], &until_bytes[..n]);
     let said = step.said;
-    let layout = step.layout;
-    StepTold {
+    Stepped {
         tally: tell(t, steps, said, powers),
         at: step.at,
-        layout,
+    }
+}
+
+// The next step: the first where nothing stands between its tokens, one whose labels stand in the list, or token by
+// token.
+fn next_step(
+    s: &[u8],
+    at: usize,
+    t: Tally,
+    steps: u32,
+    labels: &[u8],
+    powers: &mut [u16; 50],
+) -> StepTold
+    requires { ⌜ (length (now s) ≤ objectMost) × (1 ≤ steps) × (steps ≤ places) × (now labels ≡ labelList) ⌝ }
+    ensures { λ r. ⌜ NextStep steps (now (s .entry)) at (r .at)
+        (record { tally = t; powers = now (powers .entry) })
+        (record { tally = r .tally; powers = now (powers .exit) }) ⌝ }
+    ensures { λ r. ⌜ (r .layout .regular ≡ true → LaidOut beforeFrom (now (s .entry)) at (r .layout)) ⌝ }
+{
+    let first = first_step(s, at, t, steps, labels, &mut *powers);
+    if first.tally.lines != t.lines {
+        return first;
+    }
+    let listed = listed_step(s, at, t, steps, labels, &mut *powers);
+    if listed.tally.lines != t.lines {
+        return listed;
+    }
+    let told = told_step(s, at, t, steps, powers);
+    let tally = told.tally;
+    StepTold {
+        tally,
+        at: told.at,
+        layout: no_layout(),
     }
 }
 
@@ -97,49 +127,6 @@ fn is_closed(s: &[u8], at: usize) -> bool
         return false;
     }
     s.len() <= past_blanks(s, outer)
-}
-
-// The first step and those after it without blanks.
-fn begin(s: &[u8], first: usize, steps: u32, powers: &mut [u16; 50]) -> Stepped
-    requires { ⌜ (length (now s) ≤ objectMost) × (1 ≤ steps) × (steps ≤ places)
-        × (is (93 ∷ []) (firstToken (now s) first) ≡ false) ⌝ }
-    ensures { λ r. ⌜ Told steps (now (s .entry)) first
-        (record { tally = noSteps; powers = now (powers .entry) })
-        (r .at) (record { tally = r .tally; powers = now (powers .exit) }) ⌝ }
-{
-    let run = first_run(s, first, steps, &mut *powers);
-    if run.tally.lines != 0 {
-        return run;
-    }
-    let none = Tally {
-        lines: 0,
-        verdict: Verdict::Pass,
-        any: false,
-    };
-    let step = next_step(s, first, none, steps, powers);
-    let tally = step.tally;
-    Stepped { tally, at: step.at }
-}
-
-// The next step, after the comma, and those after it that are laid out as it is, or without blanks.
-fn next_steps(
-    s: &[u8],
-    lead: usize,
-    at: usize,
-    t: Tally,
-    steps: u32,
-    powers: &mut [u16; 50],
-) -> Stepped
-    requires { ⌜ (length (now s) ≤ objectMost) × (1 ≤ steps) × (steps ≤ places)
-        × Passed betweenSteps (now s) lead at ⌝ }
-    ensures { λ r. ⌜ Onward steps (now (s .entry)) lead (record { tally = t; powers = now (powers .entry) })
-        (r .at) (record { tally = r .tally; powers = now (powers .exit) }) ⌝ }
-    ensures { λ r. ⌜ length (tokens (drop (r .at) (now (s .entry)))) < length (tokens (drop lead (now (s .entry)))) ⌝ }
-{
-    let step = next_step(s, at, t, steps, &mut *powers);
-    let tally = step.tally;
-    let layout = step.layout;
-    steps_run(s, lead, layout, step.at, tally, steps, powers)
 }
 
 // The steps and what closes the object.
@@ -160,11 +147,41 @@ pub(crate) fn take_series(s: &[u8], from: usize, steps: u32, powers: &mut [u16; 
             },
         };
     }
-    let begun = begin(s, first, steps, &mut *powers);
-    let mut tally = begun.tally;
-    let mut at = begun.at;
+    let mut tally = Tally {
+        lines: 0,
+        verdict: Verdict::Pass,
+        any: false,
+    };
+    let mut at = first;
+    // The place after the power before the step at `at`; at the first step that step's.
+    let mut lead = first;
+    let labels =
+        b"t\":\"00h00\"t\":\"00h30\"t\":\"01h00\"t\":\"01h30\"t\":\"02h00\"t\":\"02h30\"t\":\"03h00\"t\":\"03h30\"\
+        t\":\"04h00\"t\":\"04h30\"t\":\"05h00\"t\":\"05h30\"t\":\"06h00\"t\":\"06h30\"t\":\"07h00\"t\":\"07h30\"\
+        t\":\"08h00\"t\":\"08h30\"t\":\"09h00\"t\":\"09h30\"t\":\"10h00\"t\":\"10h30\"t\":\"11h00\"t\":\"11h30\"\
+        t\":\"12h00\"t\":\"12h30\"t\":\"13h00\"t\":\"13h30\"t\":\"14h00\"t\":\"14h30\"t\":\"15h00\"t\":\"15h30\"\
+        t\":\"16h00\"t\":\"16h30\"t\":\"17h00\"t\":\"17h30\"t\":\"18h00\"t\":\"18h30\"t\":\"19h00\"t\":\"19h30\"\
+        t\":\"20h00\"t\":\"20h30\"t\":\"21h00\"t\":\"21h30\"t\":\"22h00\"t\":\"22h30\"t\":\"23h00\"t\":\"23h30\"\
+        t\":\"00h00\"";
     loop {
-        let end = after_mark(s, at, b'}');
+        let step = next_step(s, at, tally, steps, labels, &mut *powers);
+        let laid = (lead < at) & step.layout.regular;
+        let layout = step.layout;
+        let sofar = step.tally;
+        let run = steps_run(
+            s,
+            laid,
+            lead,
+            layout,
+            step.at,
+            sofar,
+            steps,
+            labels,
+            &mut *powers,
+        );
+        tally = run.tally;
+        lead = run.at;
+        let end = after_mark(s, lead, b'}');
         let mark = past_blanks(s, end);
         if byte_at(s, mark) != b',' {
             return SeriesRead {
@@ -172,8 +189,6 @@ pub(crate) fn take_series(s: &[u8], from: usize, steps: u32, powers: &mut [u16; 
                 tally,
             };
         }
-        let next = next_steps(s, at, mark + 1, tally, steps, &mut *powers);
-        tally = next.tally;
-        at = next.at;
+        at = mark + 1;
     }
 }

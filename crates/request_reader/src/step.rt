@@ -9,9 +9,8 @@ ghost use Rattle.notification.specs.Forms.{isDigit};
 ghost use Rattle.request.specs.Tokens.{isBlank, quotedBy};
 ghost use Rattle.request.specs.Writing.{objectMost};
 ghost use Rattle.request.specs.Reading.{isLabelByte};
-ghost use Rattle.request_reader.specs.Walking.{RunTo, Walked, Passed, between, framed, isQuoted};
+ghost use Rattle.request_reader.specs.Walking.{RunTo, Walked, between, framed, isQuoted};
 ghost use Rattle.request_reader.specs.Steps.{LabelAt, PowerAt, StepAt, powerOf, saidOf};
-ghost use Rattle.request_reader.specs.Steps.{FiveAt, LaidOut, beforeFrom};
 use crate::tokens::NOWHERE;
 use crate::tokens::after_mark;
 use crate::tokens::is_framed;
@@ -24,32 +23,21 @@ use reader::power::Power;
 use reader::power::power_of;
 use reader::tally::LinePower;
 
-// Whether a label is the one wanted, its place and the place after it.
+// Whether a label is the one wanted, and the place after it.
 pub struct LabelRead {
     pub right: bool,
-    pub from: usize,
     pub at: usize,
 }
 
-// The power that digits give, their place and the place after them.
+// The power that digits give, and the place after them.
 pub struct PowerRead {
     pub power: Power,
-    pub from: usize,
     pub at: usize,
 }
 
-// The places of a step's labels and of its power, and whether the labels have five bytes of which the last is 0.
-pub struct Layout {
-    pub regular: bool,
-    pub first: usize,
-    pub second: usize,
-    pub power: usize,
-}
-
-// What a step says, how it is laid out, and the place after its power.
+// What a step says, and the place after its power.
 pub struct StepRead {
     pub said: LinePower,
-    pub layout: Layout,
     pub at: usize,
 }
 
@@ -121,20 +109,16 @@ fn label_member(s: &[u8], at: usize, name: &[u8], wanted: &[u8]) -> LabelRead
     requires { ⌜ (length (now s) ≤ objectMost) × (isQuoted (now name) ≡ true)
         × (every isLabelByte (now wanted) ≡ true) × (length (now wanted) ≤ 20) ⌝ }
     ensures { λ r. ⌜ LabelAt (now (name .entry)) (now (wanted .entry)) (now (s .entry)) at (r .at) (r .right) ⌝ }
-    ensures { λ r. ⌜ (r .at ≤ length (now (s .entry))
-        → Passed (now (name .entry) ∷ (58 ∷ []) ∷ []) (now (s .entry)) at (r .from)) ⌝ }
 {
     let from = value_from(s, at, name);
     if is_quoted_at(s, from, wanted) {
         return LabelRead {
             right: true,
-            from,
             at: from + wanted.len() + 2,
         };
     }
     LabelRead {
         right: false,
-        from,
         at: label_end(s, from),
     }
 }
@@ -172,21 +156,17 @@ fn digits_power(s: &[u8], from: usize, end: usize) -> Power
 fn power_member(s: &[u8], at: usize, name: &[u8]) -> PowerRead
     requires { ⌜ (length (now s) ≤ objectMost) × (isQuoted (now name) ≡ true) ⌝ }
     ensures { λ r. ⌜ PowerAt (now (name .entry)) (now (s .entry)) at (r .at) (r .power) ⌝ }
-    ensures { λ r. ⌜ (r .at ≤ length (now (s .entry))
-        → Passed (now (name .entry) ∷ (58 ∷ []) ∷ []) (now (s .entry)) at (r .from)) ⌝ }
 {
     let from = value_from(s, at, name);
     let end = digit_run(s, from);
     if end == from {
         return PowerRead {
             power: Power::Not,
-            from,
             at: NOWHERE,
         };
     }
     PowerRead {
         power: digits_power(s, from, end),
-        from,
         at: end,
     }
 }
@@ -204,20 +184,11 @@ fn say(right: bool, power: Power) -> LinePower
     }
 }
 
-// Whether a text of five bytes of which the last is 0 stands in quotes at a place.
-fn is_five(s: &[u8], from: usize) -> bool
-    requires { ⌜ from ≤ objectMost ⌝ }
-    ensures { λ r. ⌜ (r ≡ true → FiveAt (now (s .entry)) from) ⌝ }
-{
-    (byte_at(s, from) == b'"') & (byte_at(s, from + 5) == b'0') & (byte_at(s, from + 6) == b'"')
-}
-
 // A step up to its power, by the two labels that it should have.
 pub(crate) fn step_at(s: &[u8], at: usize, from: &[u8], until: &[u8]) -> StepRead
     requires { ⌜ (length (now s) ≤ objectMost) × (every isLabelByte (now from) ≡ true) × (length (now from) ≤ 20)
         × (every isLabelByte (now until) ≡ true) × (length (now until) ≤ 20) ⌝ }
     ensures { λ r. ⌜ StepAt (now (from .entry)) (now (until .entry)) (now (s .entry)) at (r .at) (r .said) ⌝ }
-    ensures { λ r. ⌜ (r .layout .regular ≡ true → LaidOut beforeFrom (now (s .entry)) at (r .layout)) ⌝ }
 {
     let inner = after_mark(s, at, b'{');
     let first = label_member(s, inner, b"\"Debut\"", from);
@@ -226,30 +197,8 @@ pub(crate) fn step_at(s: &[u8], at: usize, from: &[u8], until: &[u8]) -> StepRea
     let last = after_mark(s, second.at, b',');
     let third = power_member(s, last, b"\"Puissance\"");
     let power = third.power;
-    let said = say(first.right & second.right, power);
-    let none = Layout {
-        regular: false,
-        first: 0,
-        second: 0,
-        power: 0,
-    };
-    if s.len() < third.at {
-        return StepRead {
-            said,
-            layout: none,
-            at: third.at,
-        };
-    }
-    let fives = is_five(s, first.from) & is_five(s, second.from);
-    let layout = Layout {
-        regular: fives & (first.at == first.from + 7) & (second.at == second.from + 7),
-        first: first.from,
-        second: second.from,
-        power: third.from,
-    };
     StepRead {
-        said,
-        layout,
+        said: say(first.right & second.right, power),
         at: third.at,
     }
 }

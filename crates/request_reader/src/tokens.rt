@@ -71,7 +71,6 @@ pub(crate) fn after_mark(s: &[u8], at: usize, b: u8) -> usize
 pub(crate) fn after_text(s: &[u8], at: usize, text: &[u8]) -> usize
     requires { ⌜ (length (now s) ≤ objectMost) × (isQuoted (now text) ≡ true) ⌝ }
     ensures { λ r. ⌜ Walked (is (now (text .entry)) ∷ []) (now (s .entry)) at r ⌝ }
-    ensures { λ r. ⌜ (r ≤ length (now (s .entry)) → Passed (now (text .entry) ∷ []) (now (s .entry)) at r) ⌝ }
 {
     let from = past_blanks(s, at);
     if stands(s, from, text) {
@@ -95,14 +94,23 @@ pub(crate) fn is_framed(s: &[u8], from: usize, n: usize) -> bool
     (s[from] == b'"') & (s[from + n + 1] == b'"')
 }
 
+// The first place of a member's value after its name: past a colon.
+pub(crate) fn value_at(s: &[u8], at: usize) -> usize
+    requires { ⌜ length (now s) ≤ objectMost ⌝ }
+    ensures { λ r. ⌜ Opened (is (58 ∷ []) ∷ []) (now (s .entry)) at r ⌝ }
+{
+    let colon = past_blanks(s, at);
+    if byte_at(s, colon) != b':' {
+        return NOWHERE;
+    }
+    past_blanks(s, colon + 1)
+}
+
 // The first place of a member's value: past its name and a colon.
 pub(crate) fn value_from(s: &[u8], at: usize, name: &[u8]) -> usize
     requires { ⌜ (length (now s) ≤ objectMost) × (isQuoted (now name) ≡ true) ⌝ }
-    ensures { λ r. ⌜ Opened (now (name .entry)) (now (s .entry)) at r ⌝ }
-    ensures { λ r. ⌜ (r ≤ length (now (s .entry))
-        → Passed (now (name .entry) ∷ (58 ∷ []) ∷ []) (now (s .entry)) at r) ⌝ }
+    ensures { λ r. ⌜ Opened (is (now (name .entry)) ∷ is (58 ∷ []) ∷ []) (now (s .entry)) at r ⌝ }
 {
     let named = after_text(s, at, name);
-    let marked = after_mark(s, named, b':');
-    past_blanks(s, marked)
+    value_at(s, named)
 }

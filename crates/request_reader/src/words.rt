@@ -70,6 +70,14 @@ pub(crate) fn same_at(s: &[u8], p: usize, q: usize, n: usize) -> bool
         & eight_at(s, p + n - 8, s, q + n - 8)
 }
 
+// Whether the same bytes, 16 to 24, stand at two places.
+pub(crate) fn same_near(s: &[u8], p: usize, q: usize, n: usize) -> bool
+    requires { ⌜ (16 ≤ n) × (n ≤ 24) × (p + n ≤ length (now s)) × (q + n ≤ length (now s)) ⌝ }
+    ensures { λ r. ⌜ r ≡ same (part p n (now (s .entry))) (part q n (now (s .entry))) ⌝ }
+{
+    eight_at(s, p, s, q) & eight_at(s, p + 8, s, q + 8) & eight_at(s, p + n - 8, s, q + n - 8)
+}
+
 // The power in the run of digits at a place: one digit, or up to four that begin with no 0.
 pub(crate) fn run_power(s: &[u8], a: usize) -> Power
     requires { ⌜ a + 4 ≤ length (now s) ⌝ }

@@ -1,7 +1,6 @@
--- `texts::day_of` meets its contract: its tests are the definition's, in their order.
+-- `texts::day_of` meets its contract: eight bytes are four pairs.
 use borrow.Author.Needs.{needs}
-use Rattle.calendar.proofs.Reading.{not-eight, not-twenty, is-day, is-none}
-use mathlib.Core.Path.{sym, _∙_}
+use Rattle.calendar.proofs.Reading.{not-eight, eight-read}
 use Rattle.calendar.proofs.texts.day_of.Statement.{statement}
 use Rattle.calendar.proofs.texts.day_of.Tie as tie
 
@@ -17,39 +16,40 @@ shared-slice-read-pair-2 c = search needs
 pair-requires : tie.Need-pair-requires
 pair-requires c κs = search needs
 
+shared-slice-read-pair-3 : tie.Need-shared-slice-read-pair-3
+shared-slice-read-pair-3 c = search needs
+
+shared-slice-read-pair-4 : tie.Need-shared-slice-read-pair-4
+shared-slice-read-pair-4 c = search needs
+
+pair-requires-2 : tie.Need-pair-requires-2
+pair-requires-2 c κs = search needs
+
+shared-slice-read-pair-5 : tie.Need-shared-slice-read-pair-5
+shared-slice-read-pair-5 c = search needs
+
+shared-slice-read-pair-6 : tie.Need-shared-slice-read-pair-6
+shared-slice-read-pair-6 c = search needs
+
+pair-requires-3 : tie.Need-pair-requires-3
+pair-requires-3 c κs = search needs
+
+shared-slice-read-pair-7 : tie.Need-shared-slice-read-pair-7
+shared-slice-read-pair-7 c = search needs
+
+shared-slice-read-pair-8 : tie.Need-shared-slice-read-pair-8
+shared-slice-read-pair-8 c = search needs
+
+pair-requires-4 : tie.Need-pair-requires-4
+pair-requires-4 c κs = search needs
+
+day-at-requires : tie.Need-day-at-requires
+day-at-requires c κs = search needs
+
 returns-2 : tie.Need-returns-2
-returns-2 c = not-twenty _ _ (c .before .before .before .before .if1 .left) (c .before .pair .ensures) (c .if2 .taken)
-
-read-date-requires : tie.Need-read-date-requires
-read-date-requires c κs = search needs
-
-is-valid-requires : tie.Need-is-valid-requires
-is-valid-requires c κs = search needs
-
-number-of-requires : tie.Need-number-of-requires
-number-of-requires c κs = sym (c .before .is-valid .ensures) ∙ c .if3 .taken
-
-returns-3 : tie.Need-returns-3
-returns-3 c =
-    is-day _ _ _ _
-    (c .before .before .before .before .before .before .before .before .if1 .left)
-    (c .before .before .before .before .before .pair .ensures)
-    (c .before .before .before .before .if2 .left)
-    (c .before .before .before .read-date .ensures)
-    (c .before .before .is-valid .ensures)
-    _
-    (c .before .if3 .taken)
-    (c .number-of .ensures)
-
-returns-4 : tie.Need-returns-4
-returns-4 c =
-    is-none _ _ _ _
-    (c .before .before .before .before .before .before .before .if1 .left)
-    (c .before .before .before .before .pair .ensures)
-    (c .before .before .before .if2 .left)
-    (c .before .before .read-date .ensures)
-    (c .before .is-valid .ensures)
-    (c .if3 .left)
+returns-2 c =
+    let b = c .before .before .before .before .before .before .before .before .before .before .before .before .before in
+    cc (eight-read (b .before .before .args .s .now) (b .if1 .left))
 
 pub day-of-spec : {M : Type 1} → statement M
 day-of-spec =
@@ -59,9 +59,14 @@ day-of-spec =
     shared-slice-read-pair
     shared-slice-read-pair-2
     pair-requires
-    returns-2
-    read-date-requires
-    is-valid-requires
-    number-of-requires
-    returns-3
-    returns-4)
+    shared-slice-read-pair-3
+    shared-slice-read-pair-4
+    pair-requires-2
+    shared-slice-read-pair-5
+    shared-slice-read-pair-6
+    pair-requires-3
+    shared-slice-read-pair-7
+    shared-slice-read-pair-8
+    pair-requires-4
+    day-at-requires
+    returns-2)

@@ -1,47 +1,31 @@
--- Each way through the code is a row of the table.
+-- By what the steps come to.
 use borrow.Author.Needs.{needs}
-use mathlib.Core.Path.{_∙_}
-use Rattle.reader.proofs.Series.{judged-lines, judged-fault, judged-passed, judged-zeros}
+use mathlib.Core.Path.{sym, _∙_}
+use Rattle.reader.specs.Folding.{judgement}
 use Rattle.reader.proofs.reading.judge.Statement.{statement}
 use Rattle.reader.proofs.reading.judge.Tie as tie
 
-refuse-requires : tie.Need-refuse-requires
-refuse-requires c κs = search needs
-
-returns : tie.Need-returns
-returns c = let a = c .before .before .before .args in c .refuse .ensures ∙ judged-lines (a .key) (a .steps) (a .t) (a .powers) (c .before .if1 .taken)
+outcome-requires : tie.Need-outcome-requires
+outcome-requires c κs = search needs
 
 enum-known-verdict : tie.Need-enum-known-verdict
 enum-known-verdict c = search needs
 
-refuse-requires-2 : tie.Need-refuse-requires-2
-refuse-requires-2 c κs = search needs
+refuse-requires : tie.Need-refuse-requires
+refuse-requires c κs = search needs
 
 enum-told : tie.Need-enum-told
 enum-told c = search needs
 
-refuse-requires-3 : tie.Need-refuse-requires-3
-refuse-requires-3 c κs = search needs
+returns : tie.Need-returns
+unfolding judgement
+returns c = c .refuse .ensures ∙ rw (sym (c .before .before .before .before .outcome .ensures) ∙ c .before .before .verdict .given .1)
 
 returns-2 : tie.Need-returns-2
-returns-2 c = let a = c .before .before .before .before .before .before .args in c .refuse2 .ensures ∙ judged-fault (a .key) (a .steps) (a .t) (a .powers) (c .before .before .before .before .if1 .left) _ (c .before .before .verdict .given .1)
-
-returns-3 : tie.Need-returns-3
-returns-3 c = let a = c .before .before .before .before .before .args in judged-passed (a .key) (a .steps) (a .t) (a .powers) (c .before .before .before .if1 .left) (c .before .enum-told .given .1) (c .if2 .taken)
-
-returns-4 : tie.Need-returns-4
-returns-4 c = let a = c .before .before .before .before .before .before .args in c .refuse3 .ensures ∙ judged-zeros (a .key) (a .steps) (a .t) (a .powers) (c .before .before .before .before .if1 .left) (c .before .before .enum-told .given .1) (c .before .if2 .left)
+unfolding judgement
+returns-2 c = rw (sym (c .before .before .outcome .ensures) ∙ c .enum-told .given .1)
 
 pub judge-spec : {M : Type 1} → statement M
 judge-spec =
     tie.close
-    (tie.spec
-    refuse-requires
-    returns
-    enum-known-verdict
-    refuse-requires-2
-    enum-told
-    refuse-requires-3
-    returns-2
-    returns-3
-    returns-4)
+    (tie.spec outcome-requires enum-known-verdict refuse-requires enum-told returns returns-2)

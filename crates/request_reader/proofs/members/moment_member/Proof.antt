@@ -1,6 +1,6 @@
--- `members::moment_member` meets its contract: a name, a colon, twenty bytes of a moment in quotes, and a comma.
+-- `members::moment_member` meets its contract: a colon, twenty bytes of a moment in quotes, and a comma.
 use borrow.Author.Needs.{needs}
-use mathlib.Core.Path.{refl, sym, _∙_}
+use mathlib.Core.Path.{sym, _∙_}
 use Prim.Native.Nat.{_+_, _≤_}
 use native.Mathlib.Omega.{arith}
 use lib.ListN.{length}
@@ -8,8 +8,8 @@ use borrow.Author.Tests.{not-true, not-false}
 use Rattle.lists.proofs.Tests.{and-left}
 use Rattle.request.specs.Moments.{momentIn}
 use Rattle.request.specs.Writing.{objectMost}
-use Rattle.request_reader.specs.Walking.{isMark}
 use Rattle.request_reader.specs.Heads.{isTimely}
+use Rattle.request_reader.proofs.Walks.{comma, mark-inside, mark-found, mark-lost}
 use Rattle.request_reader.proofs.Values.{framed-parts}
 use Rattle.request_reader.proofs.ValueForms.{moment-twenty, part-cut, part-found, part-unframed, part-other}
 use Rattle.request_reader.proofs.Heads.{timely-plain, timely-long, timely-read}
@@ -17,26 +17,32 @@ use Rattle.request_reader.proofs.members.moment_member.Statement.{state
 use Rattle.request_reader.proofs.members.moment_member.Tie as tie
 
 -- back from a context to an earlier one
+abbrev formed : tie.After-byte-at → tie.Else2
+formed c = c .before .before
+
+abbrev read : tie.After-struct-known2 → tie.After-moment-of
+read c = c .before .before .before
+
 abbrev framed : tie.After-moment-of → tie.Else1
 framed c = c .before .before
 
-abbrev value : tie.Else1 → tie.After-value-from
+abbrev value : tie.Else1 → tie.After-value-at
 value c = c .before .before
 
-abbrev start : tie.After-value-from → tie.Start
-start c = c .before .before .before
+abbrev start : tie.After-value-at → tie.Start
+start c = c .before .before
 
 -- the twenty bytes and their quotes are within the text, which is no longer than an object's most
 framed-within : (c : tie.Else1)
-    → (value c .value-from .result + 20 + 2 ≤ length (start (value c) .args .s .now))
+    → (value c .value-at .result + 20 + 2 ≤ length (start (value c) .args .s .now))
     × (length (start (value c) .args .s .now) ≤ objectMost)
 framed-within c =
     let x = start (value c) in
     let quoted = sym (c .before .is-framed .ensures) ∙ not-false _ (c .if1 .left) in
-    (framed-parts (x .args .s .now) (value c .value-from .result) 20 quoted .0, x .pre .0)
+    (framed-parts (x .args .s .now) (value c .value-at .result) 20 quoted .0, x .pre)
 
-value-from-requires : tie.Need-value-from-requires
-value-from-requires c κs = search needs
+value-at-requires : tie.Need-value-at-requires
+value-at-requires c κs = search needs
 
 is-framed-requires : tie.Need-is-framed-requires
 is-framed-requires c κs = search needs
@@ -45,10 +51,10 @@ returns : tie.Need-returns
 returns c =
     let v = c .before .before in
     let latest = start v .args .latest in
-    let from = v .value-from .result in
-    part-unframed (isTimely latest) (timely-plain latest) momentIn _ _ _ from (v .value-from .ensures .0) 20
+    let from = v .value-at .result in
+    part-unframed (isTimely latest) (timely-plain latest) momentIn _ _ from (v .value-at .ensures) 20
     (timely-long latest _ from moment-twenty) _ (part-cut _ from 20 (from + 21) (omega arith)) _ _ (c .before .is-framed .ensures)
-    (not-true _ (c .if1 .taken)) (start v .pre .0)
+    (not-true _ (c .if1 .taken)) (start v .pre)
 
 add-moment-of : tie.Need-add-moment-of
 add-moment-of c = omega (arith, framed-within c)
@@ -70,41 +76,69 @@ moment-of-requires c κs = search needs
 
 returns-2 : tie.Need-returns-2
 returns-2 c =
-    let read = c .before .before .before .before in
-    let m = read .moment-of .ensures in
-    let v = value (framed read) in
+    let m = read (c .before) .moment-of .ensures in
+    let v = value (framed (read (c .before))) in
     let latest = start v .args .latest in
-    let from = v .value-from .result in
-    part-other (isTimely latest) (timely-plain latest) momentIn _ _ _ from (v .value-from .ensures .0) 20
+    let from = v .value-at .result in
+    part-other (isTimely latest) (timely-plain latest) momentIn _ _ from (v .value-at .ensures) 20
     (timely-long latest _ from moment-twenty) _ (part-cut _ from 20 (from + 21) (omega arith)) _ _
-    (timely-read latest _ _ _ (m .0) (m .1)) (not-true _ (c .if2 .taken)) (start v .pre .0)
+    (timely-read latest _ _ _ (m .0) (m .1)) (not-true _ (c .if2 .taken)) (start v .pre)
 
-add-after-mark : tie.Need-add-after-mark
-add-after-mark c = omega (arith, framed-within (framed (c .before .before .before .before)))
+add-past-blanks : tie.Need-add-past-blanks
+add-past-blanks c = omega (arith, framed-within (framed (read (c .before))))
 
-after-mark-requires : tie.Need-after-mark-requires
-unfolding isMark
-after-mark-requires c κs = (start (value (framed (c .before .before .before .before))) .pre .0, refl)
+past-blanks-requires : tie.Need-past-blanks-requires
+past-blanks-requires c κs = search needs
+
+byte-at-requires : tie.Need-byte-at-requires
+byte-at-requires c κs = search needs
 
 returns-3 : tie.Need-returns-3
 returns-3 c =
-    let read = c .before .before .before .before .before in
-    let m = read .moment-of .ensures in
-    let f = framed read in
+    let e = formed (c .before) in
+    let m = read (e .before) .moment-of .ensures in
+    let f = framed (read (e .before)) in
+    let v = value f in
+    let x = start v in
+    let latest = x .args .latest in
+    let from = v .value-at .result in
+    part-found (isTimely latest) (timely-plain latest) momentIn _ _ from (v .value-at .ensures) 20
+    (timely-long latest _ from moment-twenty) _ (part-cut _ from 20 (from + 21) (omega arith)) _ _ (from + 22) 8193 _
+    (f .before .is-framed .ensures) (not-false _ (f .if1 .left)) (timely-read latest _ _ _ (m .0) (m .1)) (not-false _ (e .if2 .left)) (omega arith)
+    (mark-lost (x .args .s .now) (from + 22) _ 44 (c .before .before .past-blanks .ensures .0) comma
+    (λ d. c .if3 .taken (c .before .byte-at .ensures ∙ d)) (x .pre))
+    (λ h. absurd (omega (arith, h, x .pre)))
+
+add-t15 : tie.Need-add-t15
+add-t15 c =
+    let v = value (framed (read (formed (c .before) .before))) in
+    let x = start v in
+    let i = mark-inside (x .args .s .now) (v .value-at .result + 22) _ 44 (c .before .before .past-blanks .ensures .0) comma
+    (sym (c .before .byte-at .ensures) ∙ c .if3 .left) in
+    omega (arith, i, x .pre)
+
+returns-4 : tie.Need-returns-4
+returns-4 c =
+    let b = c .before in
+    let e = formed b in
+    let m = read (e .before) .moment-of .ensures in
+    let f = framed (read (e .before)) in
     let v = value f in
     let latest = start v .args .latest in
-    let from = v .value-from .result in
-    let good = not-false _ (c .before .if2 .left) in
-    part-found (isTimely latest) (timely-plain latest) momentIn _ _ _ from (v .value-from .ensures .0) 20
+    let from = v .value-at .result in
+    let good = not-false _ (e .if2 .left) in
+    part-found (isTimely latest) (timely-plain latest) momentIn _ _ from (v .value-at .ensures) 20
     (timely-long latest _ from moment-twenty) _ (part-cut _ from 20 (from + 21) (omega arith)) _ _ (from + 22) _ _
     (f .before .is-framed .ensures) (not-false _ (f .if1 .left)) (timely-read latest _ _ _ (m .0) (m .1)) good (omega arith)
-    (c .after-mark .ensures .0) (m .1 (and-left _ _ good))
+    (mark-found (start v .args .s .now) (from + 22) _ 44 (b .before .past-blanks .ensures .0) comma
+    (sym (b .byte-at .ensures) ∙ c .if3 .left))
+    (λ h. m .1 (and-left _ _ good))
 
 pub moment-member-spec : {M : Type 1} → statement M
 moment-member-spec =
     tie.close
     (tie.spec
-    value-from-requires
+    value-at-requires
     is-framed-requires
     returns
     add-moment-of
@@ -114,6 +148,9 @@ moment-member-spec =
     part-moment-of-end
     moment-of-requires
     returns-2
-    add-after-mark
-    after-mark-requires
-    returns-3)
+    add-past-blanks
+    past-blanks-requires
+    byte-at-requires
+    returns-3
+    add-t15
+    returns-4)

@@ -1,6 +1,6 @@
 -- `reading::read_text` meets its contract: the members, the steps, and what they come to.
 use borrow.Author.Needs.{needs}
-use mathlib.Core.Path.{refl, _∙_}
+use mathlib.Core.Path.{refl, sym, _∙_}
 use borrow.Author.Tests.{not-true, not-false}
 use Rattle.request_reader.proofs.ObjectReads.{too-long, head-lost, steps-enough, series-lost, series-found}
 use Rattle.request_reader.proofs.reading.read_text.Statement.{statement}
@@ -67,24 +67,43 @@ returns-3 c =
     (h .before .take-terms .ensures) (h .series-from .ensures) (counted .before .if2 .left) _ (counted .steps-of .ensures) _ _ _
     (series .take-series .ensures) (not-true _ (c .before .if3 .taken))
 
-judge-requires : tie.Need-judge-requires
-judge-requires c κs = search needs
+outcome-requires : tie.Need-outcome-requires
+outcome-requires c κs = search needs
 
-conclude-requires : tie.Need-conclude-requires
-conclude-requires c κs = search needs
+enum-known-verdict : tie.Need-enum-known-verdict
+enum-known-verdict c = search needs
+
+refuse-requires-4 : tie.Need-refuse-requires-4
+refuse-requires-4 c κs = search needs
+
+enum-told : tie.Need-enum-told
+enum-told c = search needs
 
 returns-4 : tie.Need-returns-4
 returns-4 c =
-    let judged = c .before .before .before in
-    let closed = judged .before .before .before .before .before in
+    let judged = c .before .before .before .before in
+    let closed = judged .before in
     let series = closed .before .before in
     let counted = series .before .before in
     let h = head counted in
     let few = short h in
-    c .conclude .ensures
+    c .refuse4 .ensures
     ∙ series-found (start few .args .body .now) (few .if1 .left) _ _ _ _ _ _ _ _ _ (h .before .before .take-parties .ensures)
     (h .before .take-terms .ensures) (h .series-from .ensures) (counted .before .if2 .left) _ (counted .steps-of .ensures) _ _ _
-    (series .take-series .ensures) _ (not-false _ (closed .if3 .left)) refl (judged .judge .ensures)
+    (series .take-series .ensures) _ (not-false _ (closed .if3 .left)) refl (sym (c .before .before .verdict .given .1) ∙ judged .outcome .ensures)
+
+returns-5 : tie.Need-returns-5
+returns-5 c =
+    let told = c .before .before .before .before .before in
+    let judged = told .before .before in
+    let closed = judged .before in
+    let series = closed .before .before in
+    let counted = series .before .before in
+    let h = head counted in
+    let few = short h in
+    series-found (start few .args .body .now) (few .if1 .left) _ _ _ _ _ _ _ _ _ (h .before .before .take-parties .ensures)
+    (h .before .take-terms .ensures) (h .series-from .ensures) (counted .before .if2 .left) _ (counted .steps-of .ensures) _ _ _
+    (series .take-series .ensures) _ (not-false _ (closed .if3 .left)) refl (sym (told .enum-told .given .1) ∙ judged .outcome .ensures)
 
 pub read-text-spec : {M : Type 1} → statement M
 read-text-spec =
@@ -101,6 +120,9 @@ read-text-spec =
     take-series-requires
     refuse-requires-3
     returns-3
-    judge-requires
-    conclude-requires
-    returns-4)
+    outcome-requires
+    enum-known-verdict
+    refuse-requires-4
+    enum-told
+    returns-4
+    returns-5)

@@ -18,9 +18,9 @@ returns : tie.Need-returns
 returns c e =
     let a = c .args in
     let n = a .to - a .from in
-    let low = leb-true 16 n (and-left (leb 16 n) (leb n 32) e) in
-    let high = leb-true n 32 (and-right (leb 16 n) (leb n 32) e) in
-    record { least = omega (arith, low, c .pre); most = omega (arith, high, c .pre) }
+    let low = leb-true 16 n (and-left (leb 16 n) (leb n (a .most)) e) in
+    let high = leb-true n (a .most) (and-right (leb 16 n) (leb n (a .most)) e) in
+    record { least = omega (arith, low, c .pre); upto = omega (arith, high, c .pre) }
 
 pub is-between-spec : {M : Type 1} → statement M
 is-between-spec = tie.close (tie.spec sub-result sub-result-2 returns)

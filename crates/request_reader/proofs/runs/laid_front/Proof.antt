@@ -87,17 +87,17 @@ four-at-requires c κs = search needs
 returns-3 : tie.Need-returns-3
 returns-3 c = search needs
 
-add-same-at : tie.Need-add-same-at
-add-same-at c = search needs
+add-same-near : tie.Need-add-same-near
+add-same-near c = search needs
 
-add-same-at-2 : tie.Need-add-same-at-2
-add-same-at-2 c = search needs
+add-same-near-2 : tie.Need-add-same-near-2
+add-same-near-2 c = search needs
 
-sub-same-at : tie.Need-sub-same-at
-sub-same-at c = search needs
+sub-same-near : tie.Need-sub-same-near
+sub-same-near c = search needs
 
-same-at-requires-2 : tie.Need-same-at-requires-2
-same-at-requires-2 c κs = search needs
+same-near-requires : tie.Need-same-near-requires
+same-near-requires c κs = search needs
 
 returns-4 : tie.Need-returns-4
 returns-4 c = search needs
@@ -111,21 +111,21 @@ four-at-requires-2 c κs = search needs
 returns-5 : tie.Need-returns-5
 returns-5 c = search needs
 
-add-same-at-3 : tie.Need-add-same-at-3
-add-same-at-3 c = search needs
+add-same-near-3 : tie.Need-add-same-near-3
+add-same-near-3 c = search needs
 
-add-same-at-4 : tie.Need-add-same-at-4
-add-same-at-4 c = search needs
+add-same-near-4 : tie.Need-add-same-near-4
+add-same-near-4 c = search needs
 
-sub-same-at-2 : tie.Need-sub-same-at-2
-sub-same-at-2 c = omega (arith, start (opened (c .before)) .pre .2 .to-power .least)
+sub-same-near-2 : tie.Need-sub-same-near-2
+sub-same-near-2 c = omega (arith, start (opened (c .before)) .pre .2 .to-power .least)
 
-same-at-requires-3 : tie.Need-same-at-requires-3
-same-at-requires-3 c κs =
+same-near-requires-2 : tie.Need-same-near-requires-2
+same-near-requires-2 c κs =
     let e = opened (c .before) in
     let x = start e .pre in
     let least = x .2 .to-power .least in
-    let most = x .2 .to-power .most in
+    let most = x .2 .to-power .upto in
     (omega (arith, least), omega (arith, least, most), omega (arith, least, e .if1 .left), omega (arith, least, x .1 .to-power .within))
 
 returns-6 : tie.Need-returns-6
@@ -140,12 +140,12 @@ enum-known-read c = search needs
 add-t24 : tie.Need-add-t24
 add-t24 c =
     let w = start (opened (else5 (else6 (c .before .before .before)))) .pre .2 in
-    omega (arith, w .to-from .most, w .to-until .most)
+    omega (arith, w .to-from .upto, w .to-until .upto)
 
 add-t25 : tie.Need-add-t25
 add-t25 c =
     let w = start (opened (else5 (else6 (c .before .before .before)))) .pre .2 in
-    omega (arith, w .to-from .most, w .to-until .most, w .to-power .most)
+    omega (arith, w .to-from .upto, w .to-until .upto, w .to-power .upto)
 
 add-t26 : tie.Need-add-t26
 add-t26 c =
@@ -171,9 +171,9 @@ returns-7 c =
     laid-again (a .s .now) (a .t .now) (a .at) (a .lead) (a .i) (a .l) (x .pre .1) (x .pre .3) (x .pre .4) _ _ _ refl refl refl _ _
     (sym (e2 .before .same-at .ensures) ∙ not-false (e2 .before .same-at .result) (e2 .if2 .left))
     (sym (e3 .before .four-at .ensures) ∙ not-false (e3 .before .four-at .result) (e3 .if3 .left))
-    (sym (e4 .before .same-at2 .ensures) ∙ not-false (e4 .before .same-at2 .result) (e4 .if4 .left))
+    (sym (e4 .before .same-near .ensures) ∙ not-false (e4 .before .same-near .result) (e4 .if4 .left))
     (sym (e5 .before .four-at2 .ensures) ∙ not-false (e5 .before .four-at2 .result) (e5 .if5 .left))
-    (sym (e6 .before .same-at3 .ensures) ∙ not-false (e6 .before .same-at3 .result) (e6 .if6 .left))
+    (sym (e6 .before .same-near2 .ensures) ∙ not-false (e6 .before .same-near2 .result) (e6 .if6 .left))
     (rw (c .before .read .given .1) at (r .run-power .ensures))
 
 returns-8 : tie.Need-returns-8
@@ -201,18 +201,18 @@ laid-front-spec =
     add-four-at
     four-at-requires
     returns-3
-    add-same-at
-    add-same-at-2
-    sub-same-at
-    same-at-requires-2
+    add-same-near
+    add-same-near-2
+    sub-same-near
+    same-near-requires
     returns-4
     add-four-at-2
     four-at-requires-2
     returns-5
-    add-same-at-3
-    add-same-at-4
-    sub-same-at-2
-    same-at-requires-3
+    add-same-near-3
+    add-same-near-4
+    sub-same-near-2
+    same-near-requires-2
     returns-6
     run-power-requires
     enum-known-read

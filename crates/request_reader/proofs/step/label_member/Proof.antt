@@ -1,16 +1,11 @@
 -- `step::label_member` meets its contract: the label wanted stands there, or another.
 use borrow.Author.Needs.{needs}
 use mathlib.Core.Path.{sym, _∙_}
-use mathlib.Core.List.{[]}
 use native.Mathlib.Omega.{arith}
 use lib.ListN.{length}
-use Rattle.lists.specs.Searches.{every}
 use Rattle.lists.proofs.Tests.{and-left}
-use Rattle.request.specs.Tokens.{quotedBy}
-use Rattle.request.specs.Reading.{isLabelByte}
 use Rattle.request_reader.specs.Walking.{framed}
 use Rattle.request_reader.proofs.Values.{framed-parts}
-use Rattle.request_reader.proofs.Heads.{walked-within}
 use Rattle.request_reader.proofs.StepReads.{label-right, label-other}
 use Rattle.request_reader.proofs.step.label_member.Statement.{statement}
 use Rattle.request_reader.proofs.step.label_member.Tie as tie
@@ -38,23 +33,17 @@ add-t9 c =
 returns : tie.Need-returns
 returns c =
     let start = c .before .before .before .before .before .before in
-    let opened = c .before .before .value-from .ensures in (
-      label-right (start .args .name .now) (start .args .s .now) (start .args .at) _ (opened .0) (start .args .wanted .now) (start .pre .2)
-          (sym (c .before .is-quoted-at .ensures) ∙ c .if1 .taken),
-      λ h. opened .1 (omega (arith, h)),
-    )
+    label-right (start .args .name .now) (start .args .s .now) (start .args .at) _ (c .before .before .value-from .ensures) (start .args .wanted .now)
+    (start .pre .2) (sym (c .before .is-quoted-at .ensures) ∙ c .if1 .taken)
 
 label-end-requires : tie.Need-label-end-requires
-label-end-requires c κs = (c .before .before .before .before .before .before .pre .0, c .before .before .value-from .ensures .0 .past .no-blank)
+label-end-requires c κs = (c .before .before .before .before .before .before .pre .0, c .before .before .value-from .ensures .past .no-blank)
 
 returns-2 : tie.Need-returns-2
 returns-2 c =
     let start = c .before .before .before .before .before .before .before in
-    let opened = c .before .before .before .value-from .ensures in (
-      label-other (start .args .name .now) (start .args .s .now) (start .args .at) _ (opened .0) (start .args .wanted .now) _
-          (sym (c .before .before .is-quoted-at .ensures) ∙ c .before .if1 .left) (c .label-end .ensures),
-      λ h. opened .1 (walked-within (quotedBy (every isLabelByte)) [] (start .args .s .now) _ _ (c .label-end .ensures) h),
-    )
+    label-other (start .args .name .now) (start .args .s .now) (start .args .at) _ (c .before .before .before .value-from .ensures) (start .args .wanted .now) _
+    (sym (c .before .before .is-quoted-at .ensures) ∙ c .before .if1 .left) (c .label-end .ensures)
 
 pub label-member-spec : {M : Type 1} → statement M
 label-member-spec =

@@ -3,7 +3,6 @@ use borrow.Author.Needs.{needs}
 use mathlib.Core.Path.{sym, _∙_}
 use native.Mathlib.Omega.{arith}
 use Rattle.request_reader.proofs.Walks.{stands-inside, text-long, text-found, text-lost}
-use Rattle.request_reader.proofs.Passing.{text-passed}
 use Rattle.request_reader.proofs.tokens.after_text.Statement.{statement}
 use Rattle.request_reader.proofs.tokens.after_text.Tie as tie
 
@@ -25,20 +24,14 @@ add-result c =
 returns : tie.Need-returns
 returns c =
     let start = c .before .before .before .before .before in
-    let past = c .before .before .past-blanks .ensures in
-    let there = sym (c .before .stands .ensures) ∙ c .if1 .taken in (
-      text-found (start .args .s .now) (start .args .at) _ (start .args .text .now) (past .0) (start .pre .1) there,
-      λ h. text-passed (start .args .s .now) (start .args .at) _ (past .0) (past .1) (start .args .text .now) (start .pre .1) there,
-    )
+    let there = sym (c .before .stands .ensures) ∙ c .if1 .taken in
+    text-found (start .args .s .now) (start .args .at) _ (start .args .text .now) (c .before .before .past-blanks .ensures .0) (start .pre .1) there
 
 returns-2 : tie.Need-returns-2
 returns-2 c =
     let start = c .before .before .before .before .before in
-    let past = c .before .before .past-blanks .ensures .0 in (
-      text-lost (start .args .s .now) (start .args .at) _ (start .args .text .now) past (start .pre .1)
-          (sym (c .before .stands .ensures) ∙ c .if1 .left) (start .pre .0),
-      λ h. absurd (omega (arith, h, start .pre .0)),
-    )
+    text-lost (start .args .s .now) (start .args .at) _ (start .args .text .now) (c .before .before .past-blanks .ensures .0) (start .pre .1)
+    (sym (c .before .stands .ensures) ∙ c .if1 .left) (start .pre .0)
 
 pub after-text-spec : {M : Type 1} → statement M
 after-text-spec =

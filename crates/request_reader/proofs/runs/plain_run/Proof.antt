@@ -1,25 +1,25 @@
--- `runs::run_steps` meets its contract: as long as the loop runs, what is kept now and the tokens from here on say what they said at first.
+-- `runs::plain_run` meets its contract: as long as the loop runs, what is kept now and the tokens from here on say what they said at first.
 use borrow.Author.Needs.{needs}
 use Prim.Native.Nat.{_-_}
 use native.Mathlib.Omega.{arith}
 use Rattle.request_reader.proofs.StepRuns.{onward-refl}
-use Rattle.request_reader.proofs.RunLoops.{keptAt, RunInv, front-small, run-start, run-entries, run-more}
+use Rattle.request_reader.proofs.RunLoops.{keptAt, kept-here, RunInv, front-small, run-start, run-entries, run-more}
 use Rattle.request_reader.proofs.RunStarts.{may-run}
-use Rattle.request_reader.proofs.runs.run_steps.Statement.{statement}
-use Rattle.request_reader.proofs.runs.run_steps.Tie as tie
+use Rattle.request_reader.proofs.runs.plain_run.Statement.{statement}
+use Rattle.request_reader.proofs.runs.plain_run.Tie as tie
 
 abbrev Inv-loop : tie.InvT-loop
-Inv-loop s laid lead l from steps labels powers₀ verdict k₀ stop i₀ sum₀ at₀ powers k i sum at =
-    RunInv steps k₀ stop s from (keptAt verdict k₀ sum₀ powers₀) verdict k i sum at powers
+Inv-loop s from steps labels powers₀ k₀ stop i₀ sum₀ at₀ powers k i sum at =
+    RunInv steps k₀ stop s from (keptAt k₀ sum₀ powers₀) k i sum at powers
 
 abbrev μ-loop : tie.MeasureT-loop
-μ-loop s laid lead l from steps labels powers₀ verdict k₀ stop i₀ sum₀ at₀ powers k i sum at = stop - k
+μ-loop s from steps labels powers₀ k₀ stop i₀ sum₀ at₀ powers k i sum at = stop - k
 
 is-over-requires : tie.Need-is-over-requires Inv-loop μ-loop
 is-over-requires c κs = search needs
 
 returns : tie.Need-returns Inv-loop μ-loop
-returns c = let a = c .before .before .before .before .args in (onward-refl (a .steps) (a .s .now) (a .from) _, (c .before .before .before .before .pre .0, omega arith))
+returns c = let a = c .before .before .before .before .args in (onward-refl (a .steps) (a .s .now) (a .from) _, c .before .before .before .before .pre .0)
 
 run-end-requires : tie.Need-run-end-requires Inv-loop μ-loop
 run-end-requires c κs =
@@ -47,20 +47,19 @@ loop-holds c =
     let o = c .before .before .before in
     let x = o .before .before .before .before in
     let a = x .args in
-    let m = may-run (a .steps) (a .t) _ (o .before .is-over .ensures) (o .if1 .left) in
     let e = c .before .half-hours .ensures .0 in
-    run-start (a .steps) (a .t .lines) _ (a .s .now) (a .from) _ _ _ _ (m .1) (omega arith) (c .one-if .ensures .1) (x .pre .0)
+    run-start (a .steps) (a .t .lines) _ (a .s .now) (a .from) _ _ _ (omega arith) (c .one-if .ensures .1) (x .pre .0)
 
-front-at-requires : tie.Need-front-at-requires Inv-loop μ-loop
-front-at-requires c κs =
+plain-next-requires : tie.Need-plain-next-requires Inv-loop μ-loop
+plain-next-requires c κs =
     let l = c .before .loop in
     let d = c .before .before .before .before in
     let x = d .before .before .before .before .before in
     let a = x .args in
     let h = c .loop-test .taken in
     let p = d .run-end .ensures (omega (arith, l .inv .on)) in
-    let e = run-entries (a .steps) (a .t .lines) (d .run-end .result) (a .s .now) (a .from) _ _ p _ _ _ _ _ (l .inv) h in
-    (l .inv .within, x .pre .3, rw (x .pre .2) (e .0), rw (x .pre .2) (e .1))
+    let e = run-entries (a .steps) (a .t .lines) (d .run-end .result) (a .s .now) (a .from) _ p _ _ _ _ _ (l .inv) h in
+    (l .inv .within, rw (x .pre .2) (e .0), rw (x .pre .2) (e .1))
 
 enum-known-front : tie.Need-enum-known-front Inv-loop μ-loop
 enum-known-front c = search needs
@@ -90,12 +89,12 @@ add-sum c =
     let x = d .before .before .before .before .before in
     let h = c .before .before .before .before .loop-test .taken in
     let p = d .run-end .ensures (omega (arith, l .loop .inv .on)) in
-    let w = rw (c .before .front .given .1) at (c .before .before .before .front-at .ensures) in
+    let w = rw (c .before .front .given .1) at (c .before .before .before .plain-next .ensures) in
     omega (arith, x .pre .1, p .within, l .loop .inv .small, front-small _ _ _ _ _ _ _ w)
 
 add-at : tie.Need-add-at Inv-loop μ-loop
 add-at c =
-    let w = rw (c .before .front .given .1) at (c .before .before .before .front-at .ensures) in
+    let w = rw (c .before .front .given .1) at (c .before .before .before .plain-next .ensures) in
     omega (arith, w .within)
 
 add-k : tie.Need-add-k Inv-loop μ-loop
@@ -117,17 +116,22 @@ loop-again c =
     let m = may-run (a .steps) (a .t) _ (o .before .is-over .ensures) (o .if1 .left) in
     let h = c .before .before .before .before .loop-test .taken in
     let p = d .run-end .ensures (omega (arith, l .loop .inv .on)) in
-    let w = rw (c .before .front .given .1, x .pre .2) at (c .before .before .before .front-at .ensures) in
-    run-more (a .steps) (a .t .lines) (d .run-end .result) (a .s .now) (a .from) _ _ p _ _ _ _ _ (l .loop .inv) h (m .2) (x .pre .1) _ _ w
+    let w = rw (c .before .front .given .1, x .pre .2) at (c .before .before .before .plain-next .ensures) in
+    run-more (a .steps) (a .t .lines) (d .run-end .result) (a .s .now) (a .from) _ p _ _ _ _ _ (l .loop .inv) h (m .2) (x .pre .1) _ _ w
 
 enum-told : tie.Need-enum-told Inv-loop μ-loop
 enum-told c = search needs
 
 returns-2 : tie.Need-returns-2 Inv-loop μ-loop
-returns-2 c = let i = c .before .loop .inv in (rw (c .before .before .one-if .ensures .0) at (i .onward), (i .within, i .on))
+returns-2 c =
+    let i = c .before .loop .inv in
+    let o = c .before .before .before .before .before in
+    let a = o .before .before .before .before .args in
+    let m = may-run (a .steps) (a .t) _ (o .before .is-over .ensures) (o .if1 .left) in
+    (rw (kept-here (a .t) _ _ (m .1) (c .before .before .one-if .ensures .0)) at (i .onward), i .within)
 
-pub run-steps-spec : {M : Type 1} → statement M
-run-steps-spec =
+pub plain-run-spec : {M : Type 1} → statement M
+plain-run-spec =
     tie.close
     (tie.spec
     Inv-loop
@@ -140,7 +144,7 @@ run-steps-spec =
     mul-i
     one-if-requires
     loop-holds
-    front-at-requires
+    plain-next-requires
     enum-known-front
     cast-powers
     mul-powers
