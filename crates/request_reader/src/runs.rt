@@ -58,12 +58,13 @@ fn plain_front(s: &[u8], at: usize, lead: &[u8], t: &[u8], i: usize) -> Power
     }
 }
 
-// A step that is laid out as another, which begins after a power, by two labels of a list: its power, and how many bytes
-// these are.
+// A step that is laid out as another, which begins after a power, by two labels of a list: its power, and how many
+// bytes these are.
 fn laid_front(s: &[u8], at: usize, lead: usize, l: Layout, t: &[u8], i: usize) -> Power
     requires { ⌜ (at ≤ length (now s)) × LaidOut (betweenSteps ++ beforeFrom) (now s) lead l × Wide lead l
         × LabelEntry (now t) i × LabelEntry (now t) (i + 10) ⌝ }
-    ensures { λ r. ⌜ LaidSays (part (i + 4) 5 (now (t .entry))) (part (i + 14) 5 (now (t .entry))) (now (s .entry)) at r ⌝ }
+    ensures { λ r. ⌜ LaidSays (part (i + 4) 5 (now (t .entry))) (part (i + 14) 5 (now (t .entry)))
+        (now (s .entry)) at r ⌝ }
 {
     let a = l.first + 1 - lead;
     let b = l.second - l.first;
@@ -99,7 +100,8 @@ fn laid_front(s: &[u8], at: usize, lead: usize, l: Layout, t: &[u8], i: usize) -
 // The next step after a step's power, without blanks.
 fn plain_next(s: &[u8], at: usize, t: &[u8], i: usize) -> Power
     requires { ⌜ (at ≤ length (now s)) × LabelEntry (now t) i × LabelEntry (now t) (i + 10) ⌝ }
-    ensures { λ r. ⌜ LaidSays (part (i + 4) 5 (now (t .entry))) (part (i + 14) 5 (now (t .entry))) (now (s .entry)) at r ⌝ }
+    ensures { λ r. ⌜ LaidSays (part (i + 4) 5 (now (t .entry))) (part (i + 14) 5 (now (t .entry)))
+        (now (s .entry)) at r ⌝ }
 {
     plain_front(s, at, b"},{\"Debu", t, i)
 }
@@ -208,7 +210,8 @@ fn is_between(from: usize, to: usize, most: usize) -> bool
 // Whether as many stand before each label and the power of a step as are compared there, from what is the same in each
 // label of a list on.
 fn is_wide(lead: usize, l: Layout) -> bool
-    requires { ⌜ (lead ≤ l .first) × (l .first + 7 ≤ l .second) × (l .second + 7 ≤ l .power) × (l .power ≤ objectMost) ⌝ }
+    requires { ⌜ (lead ≤ l .first) × (l .first + 7 ≤ l .second) × (l .second + 7 ≤ l .power)
+        × (l .power ≤ objectMost) ⌝ }
     ensures { λ r. ⌜ (r ≡ true → Wide lead l) ⌝ }
 {
     is_between(lead, l.first + 1, 32)

@@ -48,8 +48,9 @@ day-at-requires c κs = search needs
 
 returns-2 : tie.Need-returns-2
 returns-2 c =
-    let b = c .before .before .before .before .before .before .before .before .before .before .before .before .before in
-    cc (eight-read (b .before .before .args .s .now) (b .if1 .left))
+    let year = c .before .before .before .before .before .before .before in
+    let eight = year .before .before .before .before .before .before in
+    cc (eight-read (eight .before .before .args .s .now) (eight .if1 .left))
 
 pub day-of-spec : {M : Type 1} → statement M
 day-of-spec =

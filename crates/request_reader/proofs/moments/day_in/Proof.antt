@@ -49,7 +49,8 @@ day-at-requires c κs = search needs
 
 returns : tie.Need-returns
 returns c =
-    let x = start (c .before .before .before .before .before .before .before .before .before .before) in
+    let year = c .before .before .before .before .before .before .before in
+    let x = start (year .before .before .before) in
     cc (day-read (x .args .s .now) (x .pre))
 
 pub day-in-spec : {M : Type 1} → statement M
