@@ -1,5 +1,5 @@
 /* Two actors exchange reserve on a long day, in the intraday too, after one of them has filed for the day that follows it, and then the
- * other answers that file by an object of the machine interface; every answer is printed. What it must print is in example.stdout. */
+ * other answers that file by an object of the machine interface; at the end a file is read in pieces. Every answer is printed. What it must print is in example.stdout. */
 #include <stdio.h>
 #include <string.h>
 
@@ -103,6 +103,28 @@ static void file_object(const char *submitter, const char *origin, uint32_t day,
     print("file object", register_file_object(&state, TEXT(submitter), body, written.length));
 }
 
+/* Reads the file of such an exchange with its body in pieces of a length, as they might come over a connection, up to a place. */
+static void read_in_pieces(uint32_t day, uint16_t power, size_t length, size_t until)
+{
+    uint8_t name[NOTIFICATION_NAME];
+    uint8_t body[NOTIFICATION_BODY];
+    notification_written written = notification_write(exchange(day, power), name, sizeof name, body, sizeof body);
+    size_t end = written.body < until ? written.body : until;
+    notification_reader reader = notification_begin(name, written.name);
+    for (size_t at = 0; at < end; at += length) {
+        reader = notification_feed(reader, body + at, end - at < length ? end - at : length);
+    }
+    notification_file read = notification_end(reader);
+    if (read.number != 0) {
+        printf("read in pieces of %zu: refused by %u at %u\n", length, (unsigned)read.number, (unsigned)read.place);
+        return;
+    }
+    calendar_text date = calendar_date(read.day);
+    printf("read in pieces of %zu: %.16s to %.16s, %.8s, %.6s, %u steps, %u MW at first\n", length, (const char *)read.ceder,
+           (const char *)read.acquirer, (const char *)date.digits, (const char *)read.category, (unsigned)read.steps,
+           (unsigned)read.powers[0]);
+}
+
 static void engagement(const char *actor, uint32_t day, uint32_t step)
 {
     char call[64];
@@ -172,5 +194,9 @@ int main(void)
     record(north, 6);
     engagement(south, day + 1, 0);
     read_object(TEXT("{ }"));
+
+    read_in_pieces(day, 40, 100, NOTIFICATION_BODY);
+    read_in_pieces(day, 40, 1, NOTIFICATION_BODY);
+    read_in_pieces(day, 40, 100, 700);
     return 0;
 }

@@ -153,6 +153,23 @@ typedef struct {
     size_t body;
 } notification_written;
 
+/* A file being read, by document 02, K4: its body comes in pieces, and at most 64 of its bytes are held between them. Its parts are its
+ * own: begin it, feed it and end it by the calls below. */
+typedef struct {
+    uint32_t day;
+    uint32_t steps;
+    uint32_t named;  /* how many bytes the header's line has that the name asks for, with its LF; 0 where the name is none */
+    uint32_t length; /* how many bytes of the body came; 4,097 where it is too long */
+    uint32_t header; /* of line 1: 0 not there yet, 1 the name's header, else the refusal's number */
+    uint32_t lines;  /* how many whole lines came after it */
+    uint32_t fault;  /* 0, or the number and the place of the first fault in them */
+    uint32_t place;
+    uint16_t powers[REGISTER_STEPS];
+    uint32_t held;    /* how many bytes are held of the line in hand, and these */
+    uint8_t line[64];
+    uint8_t text[51]; /* the header's line that the name asks for */
+} notification_reader;
+
 /* The object of a request, by document 02, K3: number and place of the refusal and the notification as of a file; then day and second of
  * the submission, and the origin, which are zeros beside a refusal too. */
 typedef struct {
@@ -325,6 +342,15 @@ static inline register_said register_history(const register_state *r, const uint
 /* Reads a file. Refusals 1 to 8. */
 notification_file notification_read(const uint8_t *name, size_t name_length, const uint8_t *body, size_t body_length);
 
+/* The same file with its body in pieces, each handed in once, empty or cut anywhere: begin with the name, feed the pieces one after
+ * another, end. However the body is cut, the end gives what notification_read gives for all of it. Each call takes the reader that the one
+ * before gave; a reader can be copied, and the copy fed otherwise. */
+notification_reader notification_begin(const uint8_t *name, size_t name_length);
+notification_reader notification_feed(notification_reader reader, const uint8_t *piece, size_t piece_length);
+
+/* Refusals 1 to 8. */
+notification_file notification_end(notification_reader reader);
+
 /* Writes a notification's name and body into two lent buffers, the rest untouched; number and place of the notification are not looked
  * at. Refusals 9, 10, 8, 36. */
 notification_written notification_write(notification_file n, uint8_t *name, size_t name_length, uint8_t *body, size_t body_length);
@@ -393,6 +419,12 @@ REGISTER_CHECK(offsetof(notification_file, acquirer) == 132);
 REGISTER_CHECK(offsetof(notification_file, category) == 148);
 REGISTER_CHECK(sizeof(notification_written) == 8 + 2 * sizeof(size_t));
 REGISTER_CHECK(offsetof(notification_written, name) == 8);
+REGISTER_CHECK(sizeof(notification_reader) == 252);
+REGISTER_CHECK(offsetof(notification_reader, header) == 16);
+REGISTER_CHECK(offsetof(notification_reader, powers) == 32);
+REGISTER_CHECK(offsetof(notification_reader, held) == 132);
+REGISTER_CHECK(offsetof(notification_reader, line) == 136);
+REGISTER_CHECK(offsetof(notification_reader, text) == 200);
 REGISTER_CHECK(sizeof(register_object) == 180);
 REGISTER_CHECK(offsetof(register_object, day) == 156);
 REGISTER_CHECK(offsetof(register_object, second) == 160);

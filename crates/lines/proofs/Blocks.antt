@@ -6,19 +6,23 @@ use borrow.Fn.World
 use denote.Triple.Clauses
 use contract.Lifetimes
 use denote.Ref.{now}
-use mathlib.Core.Path.{_≡_, refl}
+use mathlib.Core.Path.{_≡_, refl, ap, _∙_}
 use mathlib.Core.Bool.{Bool, true, false}
 use mathlib.Core.List.{List, [], _∷_, _++_}
 use Prim.Native.Nat.{ℕ, suc, _+_, _<_, _≤_}
 use lib.ListN.{length, take, drop}
 use lib.Seq.{sets}
-use Rattle.notification.specs.Reading.{linesIn}
+use Rattle.notification.specs.Reading.{linesIn, readFile}
+use Rattle.notification.specs.declared.Reading.{Reading}
+use Rattle.reader.specs.InHand.{joinedPieces}
+use Rattle.reader.specs.declared.pieces.FileReader.{FileReader}
+use Rattle.reader.proofs.InPieces.{Fed, Ends, read-in-pieces}
 use Rattle.tables.specs.Tables.{Columns, LoadColumns, columns, loadColumns}
 use Rattle.register.specs.View.{Register, lent, held}
 use Rattle.register.specs.declared.Fresh.{Fresh}
 use Rattle.register.proofs.Runs.{Begun}
 use Rattle.script.specs.Spans.{cut}
-use Rattle.lines.specs.Scripts.{Files}
+use Rattle.lines.specs.Scripts.{Files, Found}
 use Rattle.lines.specs.Walking.{heldOf, ended, endedAt, Walked, stands, walk, NamedIf}
 use Rattle.lines.specs.declared.answering.Wants.{Wants}
 use Rattle.lines.specs.declared.answering.Wants.the-variants.{Input, File}
@@ -46,10 +50,10 @@ pub data Ended : List ℕ → ℕ → ℕ → List ℕ → Type 1 where
       (end-reads.Asked κs a → end-reads.Post κs a m s) → Ended (now (a .0)) (a .1 .0) m (now (s .0))
 
 -- `answer_lines`: whether a file is given, what was found, the input, and how far the lines were before and after
-pub data Went : Bool → Bool → List ℕ → List ℕ → Walked → Walked → Type 1 where
-  goes : (κs : Lifetimes.Lfts 11) (a : World.ArgsD answer-fn.signature κs) (y : Progress) (s : Clauses.AtExit (Kinds.endedOf 11 answer-kinds.ps answer-kinds.r) κs) →
+pub data Went : Bool → Bool → Reading → List ℕ → Walked → Walked → Type 1 where
+  goes : (κs : Lifetimes.Lfts 10) (a : World.ArgsD answer-fn.signature κs) (y : Progress) (s : Clauses.AtExit (Kinds.endedOf 10 answer-kinds.ps answer-kinds.r) κs) →
       (answer-reads.Asked κs a → answer-reads.Post κs a y s) →
-      Went (a .1 .1 .1 .1 .1 .1 .1 .1 .1 .1 .1 .1 .1 .1 .0) (a .1 .1 .1 .1 .1 .1 .1 .1 .1 .1 .1 .1 .1 .1 .1 .0) (now (a .1 .1 .1 .1 .1 .1 .1 .1 .1 .1 .1 .1 .1 .1 .1 .1 .0)) (now (a .1 .1 .1 .1 .1 .1 .1 .1 .1 .1 .0))
+      Went (a .1 .1 .1 .1 .1 .1 .1 .1 .1 .1 .1 .1 .1 .1 .0) (a .1 .1 .1 .1 .1 .1 .1 .1 .1 .1 .1 .1 .1 .1 .1 .0) (a .1 .1 .1 .1 .1 .1 .1 .1 .1 .1 .1 .1 .1 .1 .1 .1 .0) (now (a .1 .1 .1 .1 .1 .1 .1 .1 .1 .1 .0))
       (stands
       (lent (a .0) (columns (now (a .1 .0)) (now (a .1 .1 .0)) (now (a .1 .1 .1 .0)) (now (a .1 .1 .1 .1 .0)) (now (a .1 .1 .1 .1 .1 .0)))
       (loadColumns (now (a .1 .1 .1 .1 .1 .1 .0)) (now (a .1 .1 .1 .1 .1 .1 .1 .0)) (now (a .1 .1 .1 .1 .1 .1 .1 .1 .0))))
@@ -63,7 +67,7 @@ pub data Went : Bool → Bool → List ℕ → List ℕ → Walked → Walked �
 pub record AsksNothing : Type 1 where
   pub hold : (κs : Lifetimes.Lfts 1) (a : World.ArgsD hold-fn.signature κs) → hold-reads.Asked κs a
   pub end-line : (κs : Lifetimes.Lfts 1) (a : World.ArgsD end-fn.signature κs) → end-reads.Asked κs a
-  pub answer-lines : (κs : Lifetimes.Lfts 11) (a : World.ArgsD answer-fn.signature κs) → answer-reads.Asked κs a
+  pub answer-lines : (κs : Lifetimes.Lfts 10) (a : World.ArgsD answer-fn.signature κs) → answer-reads.Asked κs a
 
 pub asks-nothing : AsksNothing
 asks-nothing = record { hold = λ κs a. tt; end-line = λ κs a. tt; answer-lines = λ κs a. tt }
@@ -105,6 +109,15 @@ abbrev pub writes : Standing → Standing
 writes s =
     record { register = s .register; number = s .number; input = s .input; at = s .at; end = s .end; output = s .output; out = 0; wants = s .wants; written = s .written ++ take (s .out) (s .output) }
 
+-- a reading of the file that is found under a name, where it can be read
+abbrev pub Reads : Reading → List ℕ → Found → Type 0
+Reads reading name there = there .readable ≡ true → reading ≡ readFile name (there .body)
+
+-- one that the reader's functions give, begun with the name, fed its bytes as they come, in pieces cut anywhere, and ended, is such a reading
+pub pieces-read : {reading : Reading} {name : List ℕ} {there : Found} {ps : List (List ℕ)} {b : FileReader} → Fed name ps b → Ends b reading →
+    joinedPieces ps ≡ there .body → Reads reading name there
+pieces-read {name = name} f e j h = read-in-pieces f e ∙ ap (readFile name) j
+
 -- A RUN over blocks, and whether the input has ended. `files` is what is found for the line of a number, by the name that it has
 pub data Ran (files : Files) : List (List ℕ) → Bool → Standing → Type 1 where
   -- a fresh register; an input with room for 513 bytes and one more
@@ -114,21 +127,22 @@ pub data Ran (files : Files) : List (List ℕ) → Bool → Standing → Type 1 
   fed : {bs : List (List ℕ)} {s : Standing} → Ran files bs false s → s .wants ≡ Input →
       (n : ℕ) (front : List ℕ) → Held (s .input) (s .at) (s .end) n front →
       (b input : List ℕ) → take (n + length b) input ≡ take n front ++ b → length input ≡ length front →
-      (readable : Bool) (body : List ℕ) (w : Walked) → Went false readable body (take (n + length b) input) (walked (reads s input (n + length b))) w →
+      (readable : Bool) (reading : Reading) (w : Walked) → Went false readable reading (take (n + length b) input) (walked (reads s input (n + length b))) w →
       Ran files (bs ++ b ∷ []) false (further (reads s input (n + length b)) w)
-  -- a file is wanted, and what is found of it is given
+  -- a file is wanted, and what is found of it is given: whether it can be read, and what it was read as
   found : {bs : List (List ℕ)} {e : Bool} {s : Standing} → Ran files bs e s → (from to : ℕ) → s .wants ≡ File from to →
-      (w : Walked) → Went true (files (suc (s .number)) (cut (block s) from to) .readable) (files (suc (s .number)) (cut (block s) from to) .body) (block s) (walked s) w →
+      (reading : Reading) → Reads reading (cut (block s) from to) (files (suc (s .number)) (cut (block s) from to)) →
+      (w : Walked) → Went true (files (suc (s .number)) (cut (block s) from to) .readable) reading (block s) (walked s) w →
       Ran files bs e (further s w)
   -- the answers that wait are written
   wrote : {bs : List (List ℕ)} {e : Bool} {s : Standing} → Ran files bs e s → Ran files bs e (writes s)
   -- the lines go on
   went : {bs : List (List ℕ)} {e : Bool} {s : Standing} → Ran files bs e s →
-      (readable : Bool) (body : List ℕ) (w : Walked) → Went false readable body (block s) (walked s) w → Ran files bs e (further s w)
+      (readable : Bool) (reading : Reading) (w : Walked) → Went false readable reading (block s) (walked s) w → Ran files bs e (further s w)
   -- more input is wanted, and there is none: what is held is the last line
   closed : {bs : List (List ℕ)} {s : Standing} → Ran files bs false s → s .wants ≡ Input →
       (n : ℕ) (front : List ℕ) → Held (s .input) (s .at) (s .end) n front → (m : ℕ) (input : List ℕ) → Ended front n m input →
-      (readable : Bool) (body : List ℕ) (w : Walked) → Went false readable body (take m input) (walked (reads s input m)) w →
+      (readable : Bool) (reading : Reading) (w : Walked) → Went false readable reading (take m input) (walked (reads s input m)) w →
       Ran files bs true (further (reads s input m) w)
 
 -- ---- what the contracts give
@@ -139,13 +153,13 @@ held-is (holds κs a n s e) = e (asks-nothing .hold κs a)
 pub ended-is : {front input : List ℕ} {n m : ℕ} → Ended front n m input → (input ≡ ended front n) × (m ≡ endedAt front n) × (m ≤ length front)
 ended-is (ends κs a m s e) = e (asks-nothing .end-line κs a)
 
-pub record Walks (given readable : Bool) (body input : List ℕ) (w v : Walked) : Type 0 where
-  pub is : v ≡ walk readable body given w (linesIn (drop (w .at) input))
+pub record Walks (given readable : Bool) (reading : Reading) (input : List ℕ) (w v : Walked) : Type 0 where
+  pub is : v ≡ walk readable reading given w (linesIn (drop (w .at) input))
   pub room : w .out ≤ length (w .output) → v .out ≤ length (w .output)
   pub even : v .ledger ≡ held (v .register)
   pub named : NamedIf input (v .at) (v .wants)
 
-pub went-is : {given readable : Bool} {body input : List ℕ} {w v : Walked} → Went given readable body input w v → Walks given readable body input w v
+pub went-is : {given readable : Bool} {reading : Reading} {input : List ℕ} {w v : Walked} → Went given readable reading input w v → Walks given readable reading input w v
 went-is (goes κs a y s e) =
     let p = e (asks-nothing .answer-lines κs a) in
     record { is = p .0; room = p .1 .room; even = refl; named = p .1 .named }

@@ -13,6 +13,7 @@ use Rattle.script.specs.declared.reading.Kind.{Kind}
 use Rattle.script.specs.declared.reading.Kind.the-variants.{Calls, Files, Engagement, RecordOf, Unknown}
 use Rattle.script.specs.declared.reading.Line.{Line}
 use Rattle.script.proofs.ReadAgain.{asked-line, named-line}
+use Rattle.notification.specs.declared.Reading.{Reading}
 use Rattle.session.specs.Lines.{lineStep}
 use Rattle.register.specs.View.{Register}
 use Rattle.register.specs.Told.{Told}
@@ -70,9 +71,9 @@ module _ (line : List ℕ) {r : Line} (w : r ≡ lineRead line) where
       sym (ap (nameFrom (length line)) (rest-read e) ∙ n)
 
   -- what is told of a line that names a file
-  pub file-told : (reg : Register) (readable : Bool) (body : List ℕ) {x : Told} → namesFile (r .kind) ≡ true →
-      x ≡ lineStep reg readable body (fileOf (firstText line r) (secondText line r)) → x ≡ lineStep reg readable body (lineOf line)
-  file-told reg readable body e f = f ∙ ap (lineStep reg readable body) (sym (files-read e))
+  pub file-told : (reg : Register) (readable : Bool) (reading : Reading) {x : Told} → namesFile (r .kind) ≡ true →
+      x ≡ lineStep reg readable reading (fileOf (firstText line r) (secondText line r)) → x ≡ lineStep reg readable reading (lineOf line)
+  file-told reg readable reading e f = f ∙ ap (lineStep reg readable reading) (sym (files-read e))
 
   -- a file is wanted where the line names one and it isn't given
   pub file-wanted : (given : Bool) → namesFile (r .kind) ≡ true → given ≡ false → r .first + 1 ≡ wanted given line

@@ -12,13 +12,19 @@ use lib.Seq.{sets, sets-eq, length-sets, length-take-le, take-at, drop-drop}
 use borrow.Author.Tests.{eqb-true, eqb-false}
 use Rattle.lists.proofs.Tests.{by-test, true-false}
 use Rattle.lists.proofs.Parts.{drop-past}
-use Rattle.notification.specs.Reading.{linesIn}
+use Rattle.notification.specs.Reading.{linesIn, readFile}
+use Rattle.notification.specs.declared.Reading.{Reading}
 use Rattle.ledger.specs.Ledger.{Ledger}
+use Rattle.ledger.specs.Call.{csv, readForm}
+use Rattle.ledger.specs.Calls.{Outcome}
+use Rattle.ledger.specs.declared.Entry.the-variants.{SevenDays}
+use Rattle.ledger.proofs.Steps.{step-file}
+use Rattle.answers.specs.Values.{saidOf}
 use Rattle.answers.specs.declared.Said.{Said}
-use Rattle.script.specs.Lines.{Asked, calls, fileOf, engagement, recordOf, unknown, lineOf}
+use Rattle.script.specs.Lines.{Asked, calls, fileOf, engagement, recordOf, unknown, filing, lineOf}
 use Rattle.script.specs.Answers.{answerLine, answerPut, answerEnd}
-use Rattle.lines.specs.Scripts.{linesOf, Files, Found, Line, lineSays, nameOf, answer, printed}
-use Rattle.lines.specs.Walking.{Walked, hasRoom, next, nameFrom, nameAt, wanted, stops, answered, walk}
+use Rattle.lines.specs.Scripts.{linesOf, Files, Found, Line, called, lineSays, nameOf, answer, printed}
+use Rattle.lines.specs.Walking.{Walked, hasRoom, next, nameFrom, nameAt, wanted, filed, saysRead, stops, answered, walk}
 use Rattle.lines.specs.declared.answering.Wants.{Wants}
 use Rattle.lines.specs.declared.answering.Wants.the-variants.{Input, File, Room}
 use Rattle.lines.proofs.Walks.{walk-none, walk-room, walk-file, walk-on}
@@ -48,15 +54,36 @@ module _ (output : List ℕ) (out n : ℕ) (said : Said) where
   unfolding answerEnd answerPut
   put-behind e h = rw e (put-taken output (answerLine n said) out (rw e at h))
 
--- ---- a line that names no file is answered alike whatever is found
+-- ---- a line is answered by its file, of which the reading is known; one that names no file is answered alike whatever is read
 
-any-found : (n : ℕ) (l : Ledger) (f g : Found) (a : Asked) → nameFrom n a ≡ 0 → lineSays l f a ≡ lineSays l g a
-unfolding lineSays
-any-found n l f g (calls c) e = refl
-any-found n l f g (fileOf submitter name) e = absurd (omega (arith, e))
-any-found n l f g (engagement actor category day s) e = refl
-any-found n l f g (recordOf asker id) e = refl
-any-found n l f g unknown e = refl
+filed-says : (l : Ledger) (u name body : List ℕ) (x : Reading) → x ≡ readFile name body → filed l u x ≡ called l (filing u name body)
+unfolding readForm
+filed-says l u name body x e =
+    ap (filed l u) e ∙ ap (λ (o : Outcome). record { ledger = o .ledger; said = saidOf (o .answer) }) (sym (step-file l SevenDays u (csv name body)))
+
+-- what is known of the file that is found under a name: whether it can be read, and what it was read as where it can
+pub record Known (readable : Bool) (reading : Reading) (name : List ℕ) (f : Found) : Type 0 where
+  pub found : readable ≡ f .readable
+  pub reads : f .readable ≡ true → reading ≡ readFile name (f .body)
+
+read-says : (l : Ledger) (readable : Bool) (x : Reading) (f : Found) (a : Asked) → Known readable x (nameOf a) f →
+    saysRead l readable x a ≡ lineSays l f a
+unfolding saysRead lineSays
+read-says l readable x f (calls c) k = refl
+read-says l readable x f (fileOf submitter name) k =
+    by-test (f .readable) (λ t. rw (k .found, t) (filed-says l submitter name (f .body) x (k .reads t))) (λ t. rw (k .found, t) refl)
+read-says l readable x f (engagement actor category day s) k = refl
+read-says l readable x f (recordOf asker id) k = refl
+read-says l readable x f unknown k = refl
+
+any-read : (n : ℕ) (l : Ledger) (readable : Bool) (x : Reading) (f : Found) (a : Asked) → nameFrom n a ≡ 0 →
+    saysRead l readable x a ≡ lineSays l f a
+unfolding saysRead lineSays
+any-read n l readable x f (calls c) e = refl
+any-read n l readable x f (fileOf submitter name) e = absurd (omega (arith, e))
+any-read n l readable x f (engagement actor category day s) e = refl
+any-read n l readable x f (recordOf asker id) e = refl
+any-read n l readable x f unknown e = refl
 
 -- the next number, where it fits in 64 bits
 pub next-is : (n : ℕ) → n + 1 < 18446744073709551616 → next n ≡ suc n
@@ -68,18 +95,19 @@ some (suc n) f = omega arith
 
 -- ---- one line
 
--- what was found is what is there for the next line, where it is given
-abbrev pub Fits : Files → Bool → Bool → List ℕ → ℕ → List ℕ → Type 0
-Fits files given readable body n text =
-    given ≡ true → (line : List ℕ) (ls : List (List ℕ)) → linesIn text ≡ line ∷ ls → record { readable = readable; body = body } ≡ files n (nameOf (lineOf line))
+-- what is known is known of the file of the next line, where it is given
+abbrev pub Fits : Files → Bool → Bool → Reading → ℕ → List ℕ → Type 0
+Fits files given readable reading n text =
+    given ≡ true → (line : List ℕ) (ls : List (List ℕ)) → linesIn text ≡ line ∷ ls →
+    Known readable reading (nameOf (lineOf line)) (files n (nameOf (lineOf line)))
 
-module _ (files : Files) (readable : Bool) (body : List ℕ) where
+module _ (files : Files) (readable : Bool) (reading : Reading) where
   -- a line that is answered is answered by its file, or names none
   its-answer : (given : Bool) (l : Ledger) (n : ℕ) (text line : List ℕ) (ls : List (List ℕ)) → linesIn text ≡ line ∷ ls →
-      Fits files given readable body n text → wanted given line ≡ 0 → lineSays l (record { readable = readable; body = body }) (lineOf line) ≡ answer files l n line
+      Fits files given readable reading n text → wanted given line ≡ 0 → saysRead l readable reading (lineOf line) ≡ answer files l n line
   unfolding nameAt
-  its-answer true l n text line ls e f k = ap (λ (x : Found). lineSays l x (lineOf line)) (f refl line ls e)
-  its-answer false l n text line ls e f k = any-found (length line) l _ _ (lineOf line) k
+  its-answer true l n text line ls e f k = read-says l readable reading (files n (nameOf (lineOf line))) (lineOf line) (f refl line ls e)
+  its-answer false l n text line ls e f k = any-read (length line) l readable reading (files n (nameOf (lineOf line))) (lineOf line) k
 
   -- ---- the walk
 
@@ -108,27 +136,27 @@ module _ (files : Files) (readable : Bool) (body : List ℕ) where
     pub passed : Passed w text v rest
     pub stop : Stops v rest
 
-  pub out-grows : (given : Bool) (w : Walked) (ls : List (List ℕ)) → w .out ≤ walk readable body given w ls .out
+  pub out-grows : (given : Bool) (w : Walked) (ls : List (List ℕ)) → w .out ≤ walk readable reading given w ls .out
   unfolding walk
   out-grows given w [] = omega arith
   out-grows given w (line ∷ ls) =
       by-test (hasRoom (w .output) (w .out))
       (λ t.
       by-test (eqb (wanted given line) 0)
-      (λ u. rw (t, u) (le-trans (end-more (w .output) (w .out) _ _) (out-grows false (answered readable body w line) ls)))
+      (λ u. rw (t, u) (le-trans (end-more (w .output) (w .out) _ _) (out-grows false (answered readable reading w line) ls)))
       (λ u. rw (t, u) (omega arith)))
       (λ t. rw t (omega arith))
 
   -- one line is passed
   one-line : (given : Bool) (w : Walked) (text line : List ℕ) (ls : List (List ℕ)) (x : First text line ls) → linesIn text ≡ line ∷ ls →
-      Fits files given readable body (suc (w .number)) text → wanted given line ≡ 0 → hasRoom (w .output) (w .out) ≡ true →
-      w .number + length text < 18446744073709551616 → answered readable body w line .out ≤ length (w .output) →
-      Passed w text (answered readable body w line) (x .rest)
+      Fits files given readable reading (suc (w .number)) text → wanted given line ≡ 0 → hasRoom (w .output) (w .out) ≡ true →
+      w .number + length text < 18446744073709551616 → answered readable reading w line .out ≤ length (w .output) →
+      Passed w text (answered readable reading w line) (x .rest)
   unfolding printed
   one-line given w text line ls x e f k room few fits =
       let rest = x .rest in
       let n = suc (w .number) in
-      let done = lineSays (w .ledger) (record { readable = readable; body = body }) (lineOf line) in
+      let done = saysRead (w .ledger) readable reading (lineOf line) in
       let a : done ≡ answer files (w .ledger) n line = its-answer given (w .ledger) n text line ls e f k in
       let l : length text ≡ length line + suc (length rest) = ap length (x .parts) ∙ length-append line (10 ∷ rest) in
       let m : next (w .number) ≡ n = next-is (w .number) (omega (arith, few, l)) in
@@ -197,24 +225,24 @@ module _ (files : Files) (readable : Bool) (body : List ℕ) where
   left-on p l = record { rest = l .rest; passed = joined p (l .passed); stop = l .stop }
 
   -- WHAT A WALK PRINTS
-  pub walk-prints : (given : Bool) (w : Walked) (text : List ℕ) (ls : List (List ℕ)) → linesIn text ≡ ls → Fits files given readable body (suc (w .number)) text →
-      w .number + length text < 18446744073709551616 → walk readable body given w ls .out ≤ length (w .output) → Left w text (walk readable body given w ls)
-  walk-prints given w text [] e f few fits = subst (Left w text) (sym (walk-none readable body given w)) (left-input w text e)
+  pub walk-prints : (given : Bool) (w : Walked) (text : List ℕ) (ls : List (List ℕ)) → linesIn text ≡ ls → Fits files given readable reading (suc (w .number)) text →
+      w .number + length text < 18446744073709551616 → walk readable reading given w ls .out ≤ length (w .output) → Left w text (walk readable reading given w ls)
+  walk-prints given w text [] e f few fits = subst (Left w text) (sym (walk-none readable reading given w)) (left-input w text e)
   walk-prints given w text (line ∷ ls) e f few fits =
       by-test (hasRoom (w .output) (w .out))
       (λ t.
       by-test (eqb (wanted given line) 0)
       (λ u.
-      let v = answered readable body w line in
+      let v = answered readable reading w line in
       let x = first-line text line ls e in
-      let on = walk-on readable body given w line ls v t (eqb-true (wanted given line) 0 u) refl in
-      let g : walk readable body false v ls .out ≤ length (w .output) = subst (λ (y : Walked). y .out ≤ length (w .output)) on fits in
+      let on = walk-on readable reading given w line ls v t (eqb-true (wanted given line) 0 u) refl in
+      let g : walk readable reading false v ls .out ≤ length (w .output) = subst (λ (y : Walked). y .out ≤ length (w .output)) on fits in
       let one = one-line given w text line ls x e f (eqb-true (wanted given line) 0 u) t few (le-trans (out-grows false v ls) g) in
       let later =
       walk-prints false v (x .rest) ls (x .others) (λ q. true-false true refl (sym q)) (lt-of-le-of-lt (one .fewer) few)
-      (subst (λ (i : ℕ). walk readable body false v ls .out ≤ i) (sym (one .as-long)) g) in
+      (subst (λ (i : ℕ). walk readable reading false v ls .out ≤ i) (sym (one .as-long)) g) in
       subst (Left w text) (sym on) (left-on one later))
       (λ u.
-      subst (Left w text) (sym (walk-file readable body given w line ls t (some (wanted given line) (eqb-false (wanted given line) 0 u))))
+      subst (Left w text) (sym (walk-file readable reading given w line ls t (some (wanted given line) (eqb-false (wanted given line) 0 u))))
       (left-file w text line ls (w .at + wanted given line) (w .at + length line) e refl)))
-      (λ t. subst (Left w text) (sym (walk-room readable body given w line ls t)) (left-room w text))
+      (λ t. subst (Left w text) (sym (walk-room readable reading given w line ls t)) (left-room w text))

@@ -13,7 +13,8 @@ use lib.Seq.{sets, length-sets, length-take-le, take-at}
 use borrow.Author.Tests.{le-leb, ltb-true}
 use Rattle.lists.proofs.Tests.{by-test, and-right}
 use Rattle.lists.proofs.All.{All, all-none, all-more}
-use Rattle.notification.specs.Reading.{linesIn}
+use Rattle.notification.specs.Reading.{linesIn, readFile}
+use Rattle.notification.specs.declared.Reading.{Reading}
 use Rattle.ledger.specs.Ledger.{fresh}
 use Rattle.tables.specs.Tables.{Columns, LoadColumns}
 use Rattle.register.specs.View.{held}
@@ -51,19 +52,23 @@ fit-reads : {long : ℕ} {s : Standing} → Fit long s → (input : List ℕ) (e
 fit-reads f input end e =
     record { sized = f .sized; early = f .early; reached = omega arith; waits = f .waits; roomy = f .roomy; as-long = e }
 
+-- where no file is given, any reading will do
+abbrev none : Reading
+none = readFile [] []
+
 -- ---- the lines go on
 
-module _ {long : ℕ} (s : Standing) (f : Fit long s) (given readable : Bool) (body : List ℕ) where
+module _ {long : ℕ} (s : Standing) (f : Fit long s) (given readable : Bool) (reading : Reading) where
   abbrev on : Walked
-  on = walked-on given readable body (block s) (walked s)
+  on = walked-on given readable reading (block s) (walked s)
 
-  far : Goes (block s) given (walked s) (walk readable body given (walked s) (linesIn (drop (s .at) (block s))))
+  far : Goes (block s) given (walked s) (walk readable reading given (walked s) (linesIn (drop (s .at) (block s))))
   far =
-      walk-goes (block s) readable body (linesIn (drop (s .at) (block s))) given (walked s)
+      walk-goes (block s) readable reading (linesIn (drop (s .at) (block s))) given (walked s)
       (record { sized = f .sized; holds = refl; early = f .early }) (f .reached) (f .waits) refl
 
-  there : Went given readable body (block s) (walked s) on
-  there = walk-exists given readable body (block s) (s .register) (s .number) (s .at) (s .output) (s .out) far
+  there : Went given readable reading (block s) (walked s) on
+  there = walk-exists given readable reading (block s) (s .register) (s .number) (s .at) (s .output) (s .out) far
 
   fit-on : Fit long (further s on)
   fit-on =
@@ -81,11 +86,11 @@ module _ {long : ℕ} (s : Standing) (f : Fit long s) (given readable : Bool) (b
 -- where a run starts
 abbrev pub start-of : {files : Files} {bs : List (List ℕ)} {e : Bool} {s : Standing} → Ran files bs e s → Standing
 start-of {s = s} (starts start b cols loads input output h) = s
-start-of (fed run i n front h b input p l readable body w g) = start-of run
-start-of (found run from to i w g) = start-of run
+start-of (fed run i n front h b input p l readable reading w g) = start-of run
+start-of (found run from to i reading k w g) = start-of run
 start-of (wrote run) = start-of run
-start-of (went run readable body w g) = start-of run
-start-of (closed run i n front h m input d readable body w g) = start-of run
+start-of (went run readable reading w g) = start-of run
+start-of (closed run i n front h m input d readable reading w g) = start-of run
 
 -- what is left to do: twice the lines that are left, and one more where room is wanted
 abbrev cost : Standing → ℕ
@@ -117,23 +122,26 @@ module _ (files : Files) (first : Standing) (long : ℕ) where
     once : (s : Standing) (want : Wants) → s .wants ≡ want → (run : Ran files bs e s) → start-of run ≡ first → Fit long s → Moved bs e (cost s)
     once s Input i run o f = record { standing = s; run = run; since = o; fit = f; lower = inl i }
     once s (File from to) i run o f =
-        let there-is = files (suc (s .number)) (cut (block s) from to) in
+        let name = cut (block s) from to in
+        let there-is = files (suc (s .number)) name in
+        let reading = readFile name (there-is .body) in
         let g = fit-writes f in
         record {
-          standing = further (writes s) (on (writes s) g true (there-is .readable) (there-is .body));
-          run = found (wrote run) from to i (on (writes s) g true (there-is .readable) (there-is .body)) (there (writes s) g true (there-is .readable) (there-is .body));
+          standing = further (writes s) (on (writes s) g true (there-is .readable) reading);
+          run = found (wrote run) from to i reading (λ t. refl) (on (writes s) g true (there-is .readable) reading)
+              (there (writes s) g true (there-is .readable) reading);
           since = o;
-          fit = fit-on (writes s) g true (there-is .readable) (there-is .body);
-          lower = lower-still (omega arith) (far (writes s) g true (there-is .readable) (there-is .body) .lower (le-leb 64 (length (s .output)) (f .roomy)));
+          fit = fit-on (writes s) g true (there-is .readable) reading;
+          lower = lower-still (omega arith) (far (writes s) g true (there-is .readable) reading .lower (le-leb 64 (length (s .output)) (f .roomy)));
         }
     once s Room i run o f =
         let g = fit-writes f in
         record {
-          standing = further (writes s) (on (writes s) g false true []);
-          run = went (wrote run) true [] (on (writes s) g false true []) (there (writes s) g false true []);
+          standing = further (writes s) (on (writes s) g false true none);
+          run = went (wrote run) true none (on (writes s) g false true none) (there (writes s) g false true none);
           since = o;
-          fit = fit-on (writes s) g false true [];
-          lower = lower-still (omega (arith, ap roomFee i)) (far (writes s) g false true [] .lower (le-leb 64 (length (s .output)) (f .roomy)));
+          fit = fit-on (writes s) g false true none;
+          lower = lower-still (omega (arith, ap roomFee i)) (far (writes s) g false true none .lower (le-leb 64 (length (s .output)) (f .roomy)));
         }
 
     rests : {k : ℕ} (x : Moved bs e k) → x .standing .wants ≡ Input → Idle bs e
@@ -188,9 +196,9 @@ module _ (files : Files) (first : Standing) (long : ℕ) where
         length-append text (drop (n + length b) front) ∙ omega (arith, many, length-drop (n + length b) front, h, few-kept .0, front-long) in
         let r = reads s input (n + length b) in
         let f = fit-reads (x .fit) input (n + length b) (all ∙ front-long) in
-        settles (further r (on r f false true []))
-        (fed (x .run) (x .idle) n front is-held b input (take-at text (drop (n + length b) front) (n + length b) many) all true [] (on r f false true []) (there r f false true []))
-        (x .since) (fit-on r f false true [])
+        settles (further r (on r f false true none))
+        (fed (x .run) (x .idle) n front is-held b input (take-at text (drop (n + length b) front) (n + length b) many) all true none (on r f false true none) (there r f false true none))
+        (x .since) (fit-on r f false true none)
 
     -- ---- the input ends
 
@@ -218,9 +226,9 @@ module _ (files : Files) (first : Standing) (long : ℕ) where
     closes =
         let r = reads s last end in
         let f = fit-reads (x .fit) last end (last-long ∙ front-long) in
-        settles (further r (on r f false true []))
-        (closed (x .run) (x .idle) (length kept) front is-held end last is-ended true [] (on r f false true []) (there r f false true []))
-        (x .since) (fit-on r f false true [])
+        settles (further r (on r f false true none))
+        (closed (x .run) (x .idle) (length kept) front is-held end last is-ended true none (on r f false true none) (there r f false true none))
+        (x .since) (fit-on r f false true none)
 
   feeds-all : (bs cs : List (List ℕ)) → All (λ b. length b + 513 ≤ long) cs → Idle bs false → Idle (bs ++ cs) false
   feeds-all bs [] all-none x = subst (λ ds. Idle ds false) (sym (append-nil bs)) x

@@ -15,6 +15,7 @@ use Rattle.lists.specs.Searches.{every}
 use Rattle.lists.proofs.Searches.{every-take}
 use Rattle.lists.proofs.Tests.{by-test, true-false}
 use Rattle.notification.specs.Reading.{linesIn}
+use Rattle.notification.specs.declared.Reading.{Reading}
 use Rattle.notification.proofs.Lines.{inLine, lines-first}
 use Rattle.ledger.specs.Ledger.{Ledger, fresh}
 use Rattle.register.specs.View.{held, lent}
@@ -28,8 +29,8 @@ use Rattle.lines.specs.Walking.{heldOf, isLast, ended, Walked, walk, Nam
 use Rattle.lines.specs.declared.answering.Wants.the-variants.{Input, File}
 use Rattle.lines.proofs.Fronts.{put-front, none-held, some-last}
 use Rattle.lines.proofs.Cutting.{first-line, no-first, of-first, of-last, last-some, cuts, cut-line, same-asked, held-alike}
-use Rattle.lines.proofs.Printing.{some, Fits, Left, walk-prints}
-use Rattle.lines.proofs.Blocks.{Held, Ended, Standing, block, walked, reads, further, writes, Ran, starts, fed, found, wrote, went, closed, held-is, ended-is, Walks, went-is}
+use Rattle.lines.proofs.Printing.{some, Known, Fits, Left, walk-prints}
+use Rattle.lines.proofs.Blocks.{Held, Ended, Standing, block, walked, reads, further, writes, Reads, Ran, starts, fed, found, wrote, went, closed, held-is, ended-is, Walks, went-is}
 
 -- no input has as many bytes as 64 bits can count
 abbrev pub most : ℕ
@@ -85,8 +86,8 @@ line-here input rest line ls at to d e f =
     ap (λ (i : ℕ). take i (drop at input)) n ∙ ap (take (length line)) (d ∙ x .parts) ∙ take-append-seam line (10 ∷ x .rest)
 
 module _ (files : Files) (bs : List (List ℕ)) (e : Bool) (s : Standing) where
-  module _ {given readable : Bool} {body : List ℕ} {w : Walked} (t : Tells files bs e s) (v : Walks given readable body (block s) (walked s) w)
-      (q : Left files readable body (walked s) (unread s) w) where
+  module _ {given readable : Bool} {reading : Reading} {w : Walked} (t : Tells files bs e s) (v : Walks given readable reading (block s) (walked s) w)
+      (q : Left files readable reading (walked s) (unread s) w) where
     abbrev place : drop (w .at) (block s) ≡ q .rest
     place = q .passed .place (block s) refl
 
@@ -122,26 +123,28 @@ module _ (files : Files) (bs : List (List ℕ)) (e : Bool) (s : Standing) where
               };
         }
 
-  goes-on : length (joined bs) < most → {given readable : Bool} {body : List ℕ} {w : Walked} → Tells files bs e s → Walks given readable body (block s) (walked s) w →
-      Fits files given readable body (suc (s .number)) (unread s) → Tells files bs e (further s w) × Rests (further s w)
-  goes-on few {given} {readable} {body} {w} t v f =
+  goes-on : length (joined bs) < most → {given readable : Bool} {reading : Reading} {w : Walked} → Tells files bs e s → Walks given readable reading (block s) (walked s) w →
+      Fits files given readable reading (suc (s .number)) (unread s) → Tells files bs e (further s w) × Rests (further s w)
+  goes-on few {given} {readable} {reading} {w} t v f =
       let ls = linesIn (unread s) in
-      let r : walk readable body given (walked s) ls .out ≤ length (s .output) = subst (λ (x : Walked). x .out ≤ length (s .output)) (v .is) (v .room (t .room)) in
-      let l = walk-prints files readable body given (walked s) (unread s) ls refl f (omega (arith, t .few, few, one-lf e)) r in
-      let q : Left files readable body (walked s) (unread s) w = subst (Left files readable body (walked s) (unread s)) (sym (v .is)) l in
+      let r : walk readable reading given (walked s) ls .out ≤ length (s .output) = subst (λ (x : Walked). x .out ≤ length (s .output)) (v .is) (v .room (t .room)) in
+      let l = walk-prints files readable reading given (walked s) (unread s) ls refl f (omega (arith, t .few, few, one-lf e)) r in
+      let q : Left files readable reading (walked s) (unread s) w = subst (Left files readable reading (walked s) (unread s)) (sym (v .is)) l in
       (tells-on t v q, rests-on t v q)
 
 -- nothing is given: nothing has to fit
-none-given : (files : Files) (readable : Bool) (body : List ℕ) (n : ℕ) (text : List ℕ) → Fits files false readable body n text
-none-given files readable body n text q = true-false true refl (sym q)
+none-given : (files : Files) (readable : Bool) (reading : Reading) (n : ℕ) (text : List ℕ) → Fits files false readable reading n text
+none-given files readable reading n text q = true-false true refl (sym q)
 
--- what is found under the name that is wanted is what is there for the next line
-found-fits : (files : Files) (s : Standing) (from to n : ℕ) → Next s from to →
-    Fits files true (files n (cut (block s) from to) .readable) (files n (cut (block s) from to) .body) n (unread s)
-found-fits files s from to n x q line ls h =
+-- a reading of what is found under the name that is wanted is one of what is there for the next line
+found-fits : (files : Files) (s : Standing) (from to n : ℕ) (reading : Reading) → Next s from to →
+    Reads reading (cut (block s) from to) (files n (cut (block s) from to)) →
+    Fits files true (files n (cut (block s) from to) .readable) reading n (unread s)
+found-fits files s from to n reading x k q line ls h =
     let r : line ∷ ls ≡ x .line ∷ x .others = sym h ∙ x .here in
     let l : x .line ≡ line = cc in
-    ap (files n) (sym (x .name) ∙ ap (λ (y : List ℕ). nameOf (lineOf y)) l)
+    let m : cut (block s) from to ≡ nameOf (lineOf line) = sym (x .name) ∙ ap (λ (y : List ℕ). nameOf (lineOf y)) l in
+    subst (λ (name : List ℕ). Known (files n (cut (block s) from to) .readable) reading name (files n name)) m (record { found = refl; reads = k })
 
 -- ---- a block comes
 
@@ -297,20 +300,20 @@ module _ (files : Files) where
 
   sound : {bs : List (List ℕ)} {e : Bool} {s : Standing} → Ran files bs e s → length (joined bs) < most → Tells files bs e s × Rests s
   sound (starts start b cols loads input output h) few = at-first start b cols loads input output h _ refl
-  sound (fed {bs = bs} {s = s} run i n front h b input p l readable body w g) few =
+  sound (fed {bs = bs} {s = s} run i n front h b input p l readable reading w g) few =
       let q = sound run (shorter bs b few) in
       goes-on files (bs ++ b ∷ []) false (reads s input (n + length b)) few (block-comes files bs s (q .0) (q .1) i n front h b input p l) (went-is g)
-      (none-given files readable body (suc (s .number)) (unread (reads s input (n + length b))))
-  sound (found {bs = bs} {e = e} {s = s} run from to i w g) few =
+      (none-given files readable reading (suc (s .number)) (unread (reads s input (n + length b))))
+  sound (found {bs = bs} {e = e} {s = s} run from to i reading k w g) few =
       let q = sound run few in
-      goes-on files bs e s few (q .0) (went-is g) (found-fits files s from to (suc (s .number)) (q .1 .named from to i))
+      goes-on files bs e s few (q .0) (went-is g) (found-fits files s from to (suc (s .number)) reading (q .1 .named from to i) k)
   sound (wrote run) few = let q = sound run few in written-on (q .0) (q .1)
-  sound (went {bs = bs} {e = e} {s = s} run readable body w g) few =
-      goes-on files bs e s few (sound run few .0) (went-is g) (none-given files readable body (suc (s .number)) (unread s))
-  sound (closed {bs = bs} {s = s} run i n front h m input d readable body w g) few =
+  sound (went {bs = bs} {e = e} {s = s} run readable reading w g) few =
+      goes-on files bs e s few (sound run few .0) (went-is g) (none-given files readable reading (suc (s .number)) (unread s))
+  sound (closed {bs = bs} {s = s} run i n front h m input d readable reading w g) few =
       let q = sound run few in
       goes-on files bs true (reads s input m) few (closes files bs s (q .0) (q .1) i n front h m input d) (went-is g)
-      (none-given files readable body (suc (s .number)) (unread (reads s input m)))
+      (none-given files readable reading (suc (s .number)) (unread (reads s input m)))
 
 -- WHAT IS PRINTED, where more input is wanted
 pub record Script (files : Files) (bs : List (List ℕ)) (e : Bool) (s : Standing) : Type 0 where

@@ -5,13 +5,19 @@ use mathlib.Core.List.{List, [], _∷_}
 use Prim.Native.Nat.{ℕ, suc, _+_, _-_, _%_, _≤_}
 use lib.Dec.{eqb, leb, ltb}
 use lib.ListN.{length, take, drop, set}
+use Rattle.refusals.specs.Tests.{decide}
+use Rattle.notification.specs.declared.Reading.{Reading}
 use Rattle.ledger.specs.Ledger.{Ledger}
+use Rattle.ledger.specs.Calls.{Outcome, refusedBy, stepNote}
+use Rattle.ledger.specs.Asking.{askEngagement, askRecord}
+use Rattle.ledger.specs.declared.Entry.the-variants.{SevenDays}
+use Rattle.answers.specs.Values.{saidOf, saidEngaged, saidShown, saidRefused}
 use Rattle.register.specs.View.{Register, held}
 use Rattle.script.specs.Lines.{Asked, calls, fileOf, engagement, recordOf, unknown, lineOf}
 use Rattle.script.specs.Spans.{cut}
 use Rattle.script.specs.Answers.{lineRoom, answerPut, answerEnd}
-use Rattle.session.specs.Lines.{lineStep}
-use Rattle.lines.specs.Scripts.{lf, Line, lineSays}
+use Rattle.session.specs.Lines.{noCall, lineStep}
+use Rattle.lines.specs.Scripts.{lf, Line, called, says}
 use Rattle.lines.specs.declared.answering.Wants.{Wants}
 use Rattle.lines.specs.declared.answering.Wants.the-variants.{Input, File, Room}
 use Rattle.lines.specs.declared.answering.Progress.{Progress}
@@ -35,6 +41,23 @@ ended input held = cond (isLast input held) (set input held lf) input
 
 unfoldable pub endedAt : List ℕ → ℕ → ℕ
 endedAt input held = cond (isLast input held) (held + 1) 0
+
+-- ---- what a line says, by what its file was read as
+
+-- the ledger that a filing leaves, and its answer
+abbrev pub stepReading : Ledger → List ℕ → Reading → Outcome
+stepReading l submitter x = decide (x .verdict) (stepNote l SevenDays submitter (x .notification)) (refusedBy l)
+
+abbrev pub filed : Ledger → List ℕ → Reading → Line
+filed l submitter x = record { ledger = stepReading l submitter x .ledger; said = saidOf (stepReading l submitter x .answer) }
+
+-- a line says the same as by the file itself, of which only the reading is kept
+unfoldable pub saysRead : Ledger → Bool → Reading → Asked → Line
+saysRead l readable x (calls c) = called l c
+saysRead l readable x (fileOf submitter name) = cond readable (filed l submitter x) (says l (saidRefused noCall))
+saysRead l readable x (engagement actor category day s) = says l (saidEngaged (askEngagement l actor category day s))
+saysRead l readable x (recordOf asker id) = says l (saidShown (askRecord l asker id))
+saysRead l readable x unknown = says l (saidRefused noCall)
 
 -- ---- the walk
 
@@ -93,18 +116,17 @@ tellsOn w line r x =
       wants = Input;
     }
 
-abbrev pub answered : Bool → List ℕ → Walked → List ℕ → Walked
-answered readable body w line =
-    tellsOn w line (lineStep (w .register) readable body (lineOf line) .register)
-    (lineSays (w .ledger) (record { readable = readable; body = body }) (lineOf line))
+abbrev pub answered : Bool → Reading → Walked → List ℕ → Walked
+answered readable reading w line =
+    tellsOn w line (lineStep (w .register) readable reading (lineOf line) .register) (saysRead (w .ledger) readable reading (lineOf line))
 
 -- lines are answered until there is none, no room, or one whose file isn't given yet
-unfoldable pub walk : Bool → List ℕ → Bool → Walked → List (List ℕ) → Walked
-walk readable body given w [] = stops w Input
-walk readable body given w (line ∷ ls) =
+unfoldable pub walk : Bool → Reading → Bool → Walked → List (List ℕ) → Walked
+walk readable reading given w [] = stops w Input
+walk readable reading given w (line ∷ ls) =
     cond (hasRoom (w .output) (w .out))
     (cond (eqb (wanted given line) 0)
-    (walk readable body false (answered readable body w line) ls)
+    (walk readable reading false (answered readable reading w line) ls)
     (stops w (File (w .at + wanted given line) (w .at + length line))))
     (stops w Room)
 

@@ -6,6 +6,7 @@ ghost use Rattle.tables.specs.Tables.{columns, loadColumns};
 ghost use Rattle.register.specs.View.{lent};
 ghost use Rattle.lines.specs.Walking.{stands, hasRoom, walk, Progressed};
 use crate::ends::line_end;
+use notification::Reading;
 use register::Head;
 use script::reading::Kind;
 use script::reading::names_file;
@@ -51,7 +52,7 @@ fn has_room(output: &[u8], out: usize) -> bool
 
 // Answers the lines of the input from a place on that have their LF, and puts their answers behind those that wait in
 // the output. A line that names a file is answered by what was found of it: `given` says whether that is known of the
-// first line, `readable` whether the file can be read, and `body` has its bytes.
+// first line, `readable` whether the file can be read, and `reading` what it was read as.
 pub fn answer_lines(
     head: Head,
     statuses: &mut [u8; 256],
@@ -69,7 +70,7 @@ pub fn answer_lines(
     out: usize,
     given: bool,
     readable: bool,
-    body: &[u8],
+    reading: Reading,
 ) -> Progress
     ensures { λ r. ⌜
         (stands
@@ -77,7 +78,7 @@ pub fn answer_lines(
         (now (rows .exit)))
         (loadColumns (now (numbers .exit)) (now (approved .exit)) (now (loads .exit))))
         (r .number) (r .at) (now (output .exit)) (r .out) (r .wants)
-        ≡ walk readable (now (body .entry)) given
+        ≡ walk readable reading given
         (stands
         (lent head (columns (now (statuses .entry)) (now (ids .entry)) (now (keys .entry)) (now (marks .entry))
         (now (rows .entry)))
@@ -142,7 +143,7 @@ pub fn answer_lines(
                 line,
                 read,
                 readable,
-                body,
+                reading,
             );
             head = turn.head;
             out = write_answer(next, turn.said, &mut *output, out);
@@ -183,7 +184,7 @@ pub fn answer_lines(
             line,
             read,
             readable,
-            body,
+            reading,
         );
         head = turn.head;
         out = write_answer(next, turn.said, &mut *output, out);

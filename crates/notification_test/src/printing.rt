@@ -1,7 +1,9 @@
 // Texts, numbers and refusals on standard output, and sums by which texts and notifications are held against each
 // other.
 use notification::Notification;
+use notification::Reading;
 use refusals::Refusal;
+use refusals::Verdict;
 
 pub(crate) fn put(text: &[u8]) {
     io::write_all(libc::STDOUT_FILENO, text);
@@ -97,4 +99,18 @@ pub(crate) fn put_notification(n: Notification) {
     put_with(b"ok, steps ", n.steps);
     put_with(b", sum ", total(&powers));
     put_with(b", mark ", mark(n));
+}
+
+// Number and place of a refusal as one number, and 0 where there is none.
+fn refused(verdict: Verdict) -> u32 {
+    match verdict {
+        Verdict::Pass => 0,
+        Verdict::No(r) => mix(refusals::number_of(r), refusals::place_of(r)),
+    }
+}
+
+// The sum over all of a reading.
+pub(crate) fn sum_of(reading: Reading) -> u32 {
+    let verdict = reading.verdict;
+    mix(mark(reading.notification), refused(verdict))
 }

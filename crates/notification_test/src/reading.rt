@@ -1,8 +1,10 @@
 // What the reader answers to a file, and to a file with a piece replaced.
+use crate::cuts::is_alike;
 use crate::pieces::replaced;
 use crate::printing::put;
 use crate::printing::put_notification;
 use crate::printing::put_refusal;
+use crate::printing::sum_of;
 use notification::Reading;
 use refusals::Verdict;
 
@@ -12,14 +14,24 @@ fn answer(reading: Reading) {
         Verdict::Pass => put_notification(reading.notification),
         Verdict::No(r) => put_refusal(r),
     }
-    put(b"\n");
+}
+
+// Whether the same is read of a body in pieces.
+fn in_pieces(alike: bool) {
+    if alike {
+        put(b", however it is cut\n");
+    } else {
+        put(b", otherwise where it is cut\n");
+    }
 }
 
 // A file as it is.
 pub(crate) fn file(title: &[u8], name: &[u8], body: &[u8]) {
     put(title);
     put(b": ");
-    answer(reader::reading::read_file(name, body));
+    let reading = reader::reading::read_file(name, body);
+    answer(reading);
+    in_pieces(is_alike(name, body, sum_of(reading)));
 }
 
 // A file whose name has a piece in the place of a part.

@@ -31,13 +31,13 @@ lines-none (b ∷ s) e =
     (λ u. absurd (omega (arith, rw (t, u) at e)))
     (λ u. rw (t, lines-none s (omega (arith, ltb-false 0 (wholeTo s) u)))))
 
-none-whole : (s : List ℕ) → every inLine s ≡ true → wholeTo s ≡ 0
+pub none-whole : (s : List ℕ) → every inLine s ≡ true → wholeTo s ≡ 0
 unfolding wholeTo
 none-whole [] e = refl
 none-whole (b ∷ s) e =
     rw (not-true (eqb b 10) (and-left (inLine b) (every inLine s) e), none-whole s (and-right (inLine b) (every inLine s) e))
 
-whole-break : (l s : List ℕ) → wholeTo (l ++ 10 ∷ s) ≡ length l + 1 + wholeTo s
+pub whole-break : (l s : List ℕ) → wholeTo (l ++ 10 ∷ s) ≡ length l + 1 + wholeTo s
 unfolding wholeTo
 whole-break [] s = omega arith
 whole-break (b ∷ l) s =

@@ -1,5 +1,6 @@
 -- A power by its bytes: what five bytes begin with is the text of a power, and the text of a power is found so.
 use mathlib.Core.Path.{_≡_, refl, sym, _∙_}
+use mathlib.Core.Bool.{cond}
 use mathlib.Core.List.{List, [], _∷_, _++_}
 use Prim.Native.Nat.{ℕ, zero, suc, _+_, _-_, _*_, _/_, _%_, _<_, _≤_}
 use native.Mathlib.Omega.{arith}
@@ -12,7 +13,7 @@ use Rattle.lists.proofs.Tests.{by-test}
 use Rattle.lists.proofs.Digits.{value-byte, digit-value}
 use Rattle.notification.specs.Forms.{digits, powerEnd}
 use Rattle.notification.specs.Writing.{powerText}
-use Rattle.reader.specs.Walking.{leadingPower}
+use Rattle.reader.specs.Walking.{leadingPower, TailSays}
 use Rattle.reader.specs.declared.power.Power.{Power}
 use Rattle.reader.specs.declared.power.Power.the-variants.{Is, Not}
 
@@ -243,7 +244,11 @@ power-found v rest h =
         let r = four-digits (48 + v / 1000) (48 + v / 100 % 10) (48 + v / 10 % 10) (48 + v % 10) 59 (v / 1000) (v / 100 % 10) (sym (digit-value (v / 1000) p)) (omega arith) (λ (z : 48 + v / 100 % 10 ≡ 59). omega arith) (sym (digit-value (v / 100 % 10) q)) (omega arith) (λ (z : v / 1000 ≡ 0). omega arith) (λ (z : 48 + v / 10 % 10 ≡ 59). omega arith) (v / 10 % 10) (sym (digit-value (v / 10 % 10) o)) (omega arith) (λ (z : 48 + v % 10 ≡ 59). omega arith) (v % 10) (sym (digit-value (v % 10) m)) (omega arith) refl in
         rw (digits-four v k) (sym (rw e at r))
 
-pub power-few : (a b c d e v n : ℕ) → leadingPower a b c d e ≡ Is v n → (2 ≤ n) × (n ≤ 5)
-power-few a b c d e v n p =
-    let t : Text (a ∷ b ∷ c ∷ d ∷ e ∷ []) v n = rw p at (says a b c d e) in
-    (t .least, t .most)
+-- ---- a power, `;` and LF in six bytes
+
+pub tail-says : (a b c d e f v n g : ℕ) (r : Power) → r ≡ cond (eqb g 10) (Is v n) Not → Is v (n - 13) ≡ leadingPower a b c d e
+    → getD (a ∷ b ∷ c ∷ d ∷ e ∷ f ∷ []) (n - 13) 0 ≡ g → 15 ≤ n → n ≤ 18 → TailSays a b c d e f r
+tail-says a b c d e f v n g r p q w m l =
+    by-test (eqb g 10)
+    (λ t. let i : r ≡ Is v n = p ∙ rw t in rw i (record { power = q; break = w ∙ eqb-true g 10 t; more = m; few = l }))
+    (λ t. let i : r ≡ Not = p ∙ rw t in rw i tt)

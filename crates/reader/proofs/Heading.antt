@@ -1,134 +1,204 @@
--- The fold over a file's lines: the header is its first line, and after one that stands the steps are taken as they are alone.
+-- The fold over a file's lines: line 1 is the name's header or another, and after the name's header the steps are taken as they are alone.
 use mathlib.Core.Path.{_≡_, refl, sym, ap, _∙_}
-use mathlib.Core.Bool.{true, false, _&&_}
-use mathlib.Core.List.{List, [], _∷_}
-use Prim.Native.Nat.{ℕ, _+_, _-_, _<_, _≤_}
+use mathlib.Core.Bool.{true, false, cond, _&&_}
+use mathlib.Core.List.{List, [], _∷_, _++_, append-assoc}
+use Prim.Native.Nat.{ℕ, _+_, _<_, _≤_}
 use native.Mathlib.Omega.{arith}
-use lib.ListN.{length, take, drop}
-use Rattle.lists.specs.Searches.{same}
+use lib.Dec.{ltb, leb, eqb}
+use lib.ListN.{length, take, drop, length-take, take-append-drop}
+use lib.Seq.{take-all, take-append-seam}
+use borrow.Author.Tests.{ltb-true, ltb-false, leb-true, leb-false}
+use Rattle.lists.specs.Searches.{every, same, byteFrom}
 use Rattle.lists.proofs.Tests.{by-test, true-false, right-false, and-left, and-right}
-use Rattle.lists.proofs.Searches.{same-refl}
-use Rattle.calendar.specs.Steps.{stepsOf}
+use Rattle.lists.proofs.Searches.{same-refl, same-true}
 use Rattle.refusals.specs.declared.Refusal.{Refusal}
-use Rattle.refusals.specs.declared.Verdict.{Verdict}
-use Rattle.refusals.specs.declared.Verdict.the-variants.{Pass, No}
-use Rattle.notification.specs.Writing.{headerOf}
-use Rattle.notification.specs.Reading.{keyIn, linesIn, refused}
+use Rattle.refusals.specs.declared.Verdict.the-variants.{No}
+use Rattle.notification.specs.Reading.{isHeader, linesIn, refused}
 use Rattle.notification.specs.declared.Key.{Key}
-use Rattle.reader.specs.Parts.{isKey, otherHeader, headerVerdict}
-use Rattle.reader.specs.Walking.{LineEnd}
-use Rattle.reader.specs.Folding.{Taken, isPass, takeSteps, FileTaken, withPowers, takeLine, takeLines, noLines, judgement, concluded, linesRead, HeaderOn}
-use Rattle.reader.specs.declared.lines.FileTally.{FileTally}
-use Rattle.reader.specs.declared.tally.Tally.{Tally}
-use Rattle.notification.proofs.Names.{header-made}
-use Rattle.reader.proofs.Ends.{lines-here, lines-over, whole-here}
-use Rattle.reader.proofs.Taking.{pass-of}
-use Rattle.reader.proofs.NameHeaders.{parted}
+use Rattle.reader.specs.Walking.{startsWith, restIn}
+use Rattle.reader.specs.Folding.{
+  Taken,
+  takeStep,
+  takeSteps,
+  judgement,
+  FileTaken,
+  otherHeader,
+  takeLine,
+  takeLines,
+  isHeaded,
+  takeText,
+  restOfText,
+  headerSaid,
+  concluded,
+}
+use Rattle.notification.proofs.Lines.{inLine, lines-first}
+use Rattle.reader.proofs.Ends.{lines-none, none-whole}
+use Rattle.reader.proofs.Starts.{starts-true}
+use Rattle.reader.proofs.SameTexts.{same-length}
+use Rattle.reader.proofs.Cuts.{rest-break, first-in, first-split, long-header, cut-power}
 
--- ---- what the header is refused by
+-- THE NEXT LINE UNDER A NAME'S HEADER: line 1 is that header, or else it is judged as another
+unfoldable pub lineUnder : List ℕ → ℕ → FileTaken → List ℕ → FileTaken
+lineUnder head steps x l =
+    cond (eqb (x .header) 0 && same l head) (record { header = 1; steps = x .steps }) (takeLine steps x l)
 
-pub other-verdict : (key : Key) (l : List ℕ) (v : Verdict) → v ≡ otherHeader l → same l (headerOf key) ≡ false → v ≡ headerVerdict key l
-unfolding headerVerdict
-other-verdict key l v e h = e ∙ rw h
+unfoldable pub linesUnder : List ℕ → ℕ → FileTaken → List (List ℕ) → FileTaken
+linesUnder head steps x [] = x
+linesUnder head steps x (l ∷ ls) = linesUnder head steps (lineUnder head steps x l) ls
 
-pub named-verdict : (s l : List ℕ) → isKey 95 s ≡ true → l ≡ headerOf (keyIn s) → Pass ≡ headerVerdict (keyIn s) l
-unfolding headerVerdict
-named-verdict s l y e =
-    let p = parted s y in
-    rw (e, header-made (keyIn s) (p .its-form) (p .its-day) (p .its-six), same-refl (headerOf (keyIn s)))
+pub under-append : (head : List ℕ) (steps : ℕ) (x : FileTaken) (ls ms : List (List ℕ))
+    → linesUnder head steps x (ls ++ ms) ≡ linesUnder head steps (linesUnder head steps x ls) ms
+unfolding linesUnder
+under-append head steps x [] ms = refl
+under-append head steps x (l ∷ ls) ms = under-append head steps (lineUnder head steps x l) ls ms
 
--- ---- the lines after the header
+-- one line more
+pub under-cons : (head : List ℕ) (steps : ℕ) (x y : FileTaken) (l : List ℕ) (ls : List (List ℕ)) → lineUnder head steps x l ≡ y
+    → linesUnder head steps x (l ∷ ls) ≡ linesUnder head steps y ls
+unfolding linesUnder
+under-cons head steps x y l ls e = ap (λ (z : FileTaken). linesUnder head steps z ls) e
 
-module _ (key : Key) (steps : ℕ) where
-  line-stays : (x : FileTaken) (r : Refusal) (l : List ℕ) → x .headed ≡ true → x .header ≡ No r → takeLine key steps x l ≡ x
+-- line 1: the name's header, or another
+pub under-named : (head : List ℕ) (steps : ℕ) (x : FileTaken) (l : List ℕ) → eqb (x .header) 0 ≡ true → same l head ≡ true
+    → lineUnder head steps x l ≡ record { header = 1; steps = x .steps }
+unfolding lineUnder
+under-named head steps x l e t = rw (e, t)
+
+pub under-other : (head : List ℕ) (steps : ℕ) (x : FileTaken) (l : List ℕ) → eqb (x .header) 0 ≡ true → same l head ≡ false
+    → lineUnder head steps x l ≡ record { header = otherHeader l; steps = x .steps }
+unfolding lineUnder takeLine
+under-other head steps x l e t = rw (e, t)
+
+-- ---- the lines after line 1
+
+module _ (steps : ℕ) where
+  -- what was found of the header stays
+  header-stays : (x : FileTaken) (l : List ℕ) → eqb (x .header) 0 ≡ false → takeLine steps x l .header ≡ x .header
   unfolding takeLine
-  line-stays x r l h e = rw (h, e)
+  header-stays x l e = by-test (eqb (x .header) 1) (λ t. rw (e, t)) (λ t. rw (e, t))
 
-  pub refused-stays : (x : FileTaken) (r : Refusal) (ls : List (List ℕ)) → x .headed ≡ true → x .header ≡ No r → takeLines key steps x ls ≡ x
-  unfolding takeLines
-  refused-stays x r [] h e = refl
-  refused-stays x r (l ∷ ls) h e =
-      ap (λ (z : FileTaken). takeLines key steps z ls) (line-stays x r l h e) ∙ refused-stays x r ls h e
+  one-line : (head : List ℕ) (x : FileTaken) (l : List ℕ) → eqb (x .header) 0 ≡ false → lineUnder head steps x l ≡ takeLine steps x l
+  unfolding lineUnder
+  one-line head x l e = rw e
 
-  pub steps-taken : (x : Taken) (ls : List (List ℕ))
-      → takeLines key steps (record { headed = true; header = Pass; steps = x }) ls ≡ record { headed = true; header = Pass; steps = takeSteps steps x ls }
+  pub other-late : (l : List ℕ) → eqb (otherHeader l) 0 ≡ false
+  other-late l = by-test (isHeader l) (λ t. rw t) (λ t. rw t)
+
+  other-first : (x : FileTaken) (l : List ℕ) (ls : List (List ℕ)) → eqb (x .header) 0 ≡ true
+      → takeLines steps x (l ∷ ls) ≡ takeLines steps (record { header = otherHeader l; steps = x .steps }) ls
+  unfolding takeLines takeLine
+  other-first x l ls e = ap (λ (z : FileTaken). takeLines steps z ls) (rw e)
+
+  pub later-lines : (head : List ℕ) (x : FileTaken) (ls : List (List ℕ)) → eqb (x .header) 0 ≡ false
+      → linesUnder head steps x ls ≡ takeLines steps x ls
+  unfolding linesUnder takeLines
+  later-lines head x [] e = refl
+  later-lines head x (l ∷ ls) e =
+      ap (λ (y : FileTaken). linesUnder head steps y ls) (one-line head x l e)
+      ∙ later-lines head (takeLine steps x l) ls (ap (λ (n : ℕ). eqb n 0) (header-stays x l e) ∙ e)
+
+  refused-stays : (x : FileTaken) (ls : List (List ℕ)) → eqb (x .header) 0 ≡ false → eqb (x .header) 1 ≡ false → takeLines steps x ls ≡ x
+  unfolding takeLines takeLine
+  refused-stays x [] e f = refl
+  refused-stays x (l ∷ ls) e f = rw (e, f) (refused-stays x ls e f)
+
+  steps-taken : (x : Taken) (ls : List (List ℕ))
+      → takeLines steps (record { header = 1; steps = x }) ls ≡ record { header = 1; steps = takeSteps steps x ls }
   unfolding takeLines takeLine takeSteps
   steps-taken x [] = refl
-  steps-taken x (l ∷ ls) = steps-taken _ ls
-
-  -- a file's tally: after a header that is refused, and where no line is left, nothing more is kept
-  module _ (u : FileTally) (ps : List ℕ) (ls : List (List ℕ)) where
-    pub stop-kept : (u .headed && isPass (u .header)) ≡ false → (u .headed ≡ false → ls ≡ []) → withPowers u ps ≡ takeLines key steps (withPowers u ps) ls
-    unfolding takeLines
-    stop-kept o n =
-        by-test (u .headed)
-        (λ h. stopped (u .header) refl h (right-false (u .headed) (isPass (u .header)) o h))
-        (λ h. rw (n h))
-      where
-        stopped : (v : Verdict) → u .header ≡ v → u .headed ≡ true → isPass v ≡ false → withPowers u ps ≡ takeLines key steps (withPowers u ps) ls
-        stopped Pass e h f = true-false true refl f
-        stopped (No r) e h f = sym (refused-stays (withPowers u ps) r ls h e)
-
-    pub go-kept : (t : Tally) (qs : List ℕ) → (u .headed && isPass (u .header)) ≡ true
-        → record { tally = t; powers = qs } ≡ takeSteps steps (record { tally = u .steps; powers = ps }) ls
-        → record { headed = true; header = Pass; steps = record { tally = t; powers = qs } } ≡ takeLines key steps (withPowers u ps) ls
-    go-kept t qs o e =
-        let h = and-left (u .headed) (isPass (u .header)) o in
-        let p = pass-of (u .header) (and-right (u .headed) (isPass (u .header)) o) in
-        let x : Taken = record { tally = u .steps; powers = ps } in
-        let w : withPowers u ps ≡ record { headed = true; header = Pass; steps = x } = rw (h, p) in
-        ap (λ (y : Taken). record { headed = true; header = Pass; steps = y }) e
-        ∙ (sym (steps-taken x ls) ∙ ap (λ (z : FileTaken). takeLines key steps z ls) (sym w))
+  steps-taken x (l ∷ ls) = steps-taken (takeStep steps x l) ls
 
   -- ---- what a file's lines come to
 
-  pub header-refuses : (x : FileTaken) (r : Refusal) → x .header ≡ No r → refused r ≡ concluded key steps x
-  unfolding concluded
-  header-refuses x r e = rw e
+  module _ (key : Key) where
+    pub concluded-no : (x : FileTaken) (r : Refusal) (ls : List (List ℕ)) → eqb (x .header) 0 ≡ false → eqb (x .header) 1 ≡ false
+        → headerSaid (x .header) ≡ No r → concluded key steps (takeLines steps x ls) ≡ refused r
+    unfolding concluded
+    concluded-no x r ls e f s = rw (refused-stays x ls e f, s)
 
-  pub header-stands : (x : FileTaken) → x .header ≡ Pass → judgement key steps (x .steps .tally) (x .steps .powers) ≡ concluded key steps x
-  unfolding concluded
-  header-stands x e = rw e
+    pub concluded-pass : (x : Taken) (ls : List (List ℕ))
+        → concluded key steps (takeLines steps (record { header = 1; steps = x }) ls)
+        ≡ judgement key steps (takeSteps steps x ls .tally) (takeSteps steps x ls .powers)
+    unfolding concluded headerSaid
+    concluded-pass x ls = rw (steps-taken x ls)
 
-  pub concluded-no : (x : FileTaken) (r : Refusal) (ls : List (List ℕ)) → x .headed ≡ true → x .header ≡ No r → concluded key steps (takeLines key steps x ls) ≡ refused r
-  concluded-no x r ls h e = ap (concluded key steps) (refused-stays x r ls h e) ∙ sym (header-refuses x r e)
+-- ---- a text's lines, by what it begins with
 
-  pub concluded-pass : (x : Taken) (ls : List (List ℕ))
-      → concluded key steps (takeLines key steps (record { headed = true; header = Pass; steps = x }) ls) ≡ judgement key steps (takeSteps steps x ls .tally) (takeSteps steps x ls .powers)
-  concluded-pass x ls = ap (concluded key steps) (steps-taken x ls) ∙ sym (header-stands (record { headed = true; header = Pass; steps = takeSteps steps x ls }) refl)
+module _ (head s : List ℕ) where
+  abbrev whole : List ℕ
+  whole = head ++ 10 ∷ []
 
-pub lines-read : (key by : Key) (steps : ℕ) (x : FileTaken) (ls : List (List ℕ)) → key ≡ by → steps ≡ stepsOf (key .day) → x ≡ takeLines by steps noLines ls → concluded key steps x ≡ linesRead key ls
-lines-read key by steps x ls p q e = rw (e, ← p, q)
+  starts-text : startsWith whole s ≡ true → s ≡ head ++ 10 ∷ drop (length whole) s
+  starts-text e =
+      let d = drop (length whole) s in
+      sym (take-append-drop (length whole) s) ∙ (ap (λ (t : List ℕ). t ++ d) (starts-true whole s e) ∙ append-assoc head (10 ∷ []) d)
 
--- ---- looking for the header
+  pub rest-text : (found : ℕ) → restOfText whole found s ≡ restIn s
+  unfolding restOfText
+  rest-text found =
+      by-test (isHeaded whole found s)
+      (λ t. let e = starts-text (and-right (eqb found 0) (startsWith whole s) t) in
+      rw t (sym (ap restIn e ∙ rest-break head (drop (length whole) s))))
+      (λ t. rw t)
 
-module _ (key : Key) (s : List ℕ) (from : ℕ) (t : FileTally) where
-  stays : from ≤ length s → (t .headed ≡ false → linesIn (drop from s) ≡ []) → HeaderOn key s from t from t
-  stays w n = record { after = omega arith; within = w; kept = λ steps ps. refl; rest = refl; none = n }
+  module _ (steps : ℕ) (plain : every inLine head ≡ true) (x : FileTaken) where
+    abbrev first : ℕ
+    first = byteFrom 10 s 0
 
-  pub header-there : from ≤ length s → t .headed ≡ true → HeaderOn key s from t from t
-  header-there w h = stays w (λ f. true-false (t .headed) h f)
+    -- a line 1 that is not the name's header
+    other-line : startsWith whole s ≡ false → first < length s → same (take first s) head ≡ false
+    unfolding startsWith
+    other-line f h =
+        by-test (same (take first s) head)
+        (λ t. let d = drop (first + 1) s in
+        let q = ap (λ (l : List ℕ). l ++ 10 ∷ d) (same-true (take first s) head t) in
+        let e = first-split s first refl h ∙ (q ∙ sym (append-assoc head (10 ∷ []) d)) in
+        let g : take (length whole) s ≡ whole = ap (take (length whole)) e ∙ take-append-seam whole d in
+        true-false (startsWith whole s) (ap (λ (l : List ℕ). same l whole) g ∙ same-refl whole) f)
+        (λ t. t)
 
-  module _ (r : ℕ) (e : LineEnd s from r) where
-    pub header-none : from ≤ length s → length s ≤ r → HeaderOn key s from t from t
-    header-none w h = stays w (λ f. lines-over s from r e h)
+    other-lines : isHeaded whole (x .header) s ≡ false → linesUnder head steps x (linesIn s) ≡ takeLines steps x (linesIn s)
+    unfolding linesUnder takeLines
+    other-lines o =
+        by-test (eqb (x .header) 0)
+        (λ t. by-test (ltb first (length s))
+        (λ u. let h = ltb-true first (length s) u in
+        let d = drop (first + 1) s in
+        let e = ap linesIn (first-split s first refl h) ∙ lines-first (take first s) d (first-in s first refl) in
+        let l = take first s in
+        let y : FileTaken = record { header = otherHeader l; steps = x .steps } in
+        let n = other-line (right-false (eqb (x .header) 0) (startsWith whole s) o t) h in
+        rw e
+        (under-cons head steps x y l (linesIn d) (under-other head steps x l t n)
+        ∙ (later-lines steps head y (linesIn d) (other-late steps l) ∙ sym (other-first steps x l (linesIn d) t))))
+        (λ u. let h = ltb-false first (length s) u in
+        let i : every inLine s ≡ true = rw (take-all first s h) at (first-in s first refl) in
+        rw (lines-none s (none-whole s i))))
+        (λ t. later-lines steps head x (linesIn s) t)
 
-    pub header-taken : t .headed ≡ false → r < length s → (v : Verdict) (u : FileTally) (at : ℕ) → v ≡ headerVerdict key (take (r - from) (drop from s))
-        → u ≡ record { headed = true; header = v; steps = t .steps } → at ≡ r + 1 → HeaderOn key s from t at u
-    header-taken f h v u at p q m =
-        rw (m, q)
-        (record {
-          after = omega (arith, e .after);
-          within = omega arith;
-          kept = kept;
-          rest = whole-here s from r e h;
-          none = λ z. true-false true refl z;
-        })
-      where
-        first-taken : (steps : ℕ) (ps : List ℕ) (ls : List (List ℕ)) →
-            takeLines key steps (withPowers t ps) (take (r - from) (drop from s) ∷ ls) ≡ takeLines key steps (withPowers (record { headed = true; header = v; steps = t .steps }) ps) ls
-        first-taken steps ps ls = unfold takeLines takeLine in rw (f, p)
+    -- THE WHOLE LINES OF A TEXT, however its beginning was looked at
+    pub text-lines : takeText whole steps x s ≡ linesUnder head steps x (linesIn s)
+    unfolding takeText
+    text-lines =
+        by-test (isHeaded whole (x .header) s)
+        (λ t. let a = and-left (eqb (x .header) 0) (startsWith whole s) t in
+        let d = drop (length whole) s in
+        let e = ap linesIn (starts-text (and-right (eqb (x .header) 0) (startsWith whole s) t)) ∙ lines-first head d plain in
+        let y : FileTaken = record { header = 1; steps = x .steps } in
+        let u = under-named head steps x head a (same-refl head) in
+        rw (t, e) (sym (under-cons head steps x y head (linesIn d) u ∙ later-lines steps head y (linesIn d) refl)))
+        (λ t. rw t (sym (other-lines t)))
 
-        kept : (steps : ℕ) (ps : List ℕ) →
-            takeLines key steps (withPowers t ps) (linesIn (drop from s)) ≡ takeLines key steps (withPowers (record { headed = true; header = v; steps = t .steps }) ps) (linesIn (drop (r + 1) s))
-        kept steps ps = ap (takeLines key steps (withPowers t ps)) (lines-here s from r e h) ∙ first-taken steps ps (linesIn (drop (r + 1) s))
+-- ---- a line longer than any that is good is judged by its first 64 bytes
+
+pub cut-line : (head : List ℕ) (steps : ℕ) (x : FileTaken) (l : List ℕ) → length head ≤ 50
+    → lineUnder head steps x (take 64 l) ≡ lineUnder head steps x l
+unfolding lineUnder takeLine takeStep
+cut-line head steps x l few =
+    by-test (leb (length l) 64)
+    (λ t. rw (take-all 64 l (leb-true (length l) 64 t)))
+    (λ t. let h = leb-false (length l) 64 t in
+    let n = length-take 64 l in
+    let a = same-length (take 64 l) head (λ (e : length (take 64 l) ≡ length head). omega arith) in
+    let b = same-length l head (λ (e : length l ≡ length head). omega arith) in
+    rw (← a, ← b, long-header (take 64 l) (omega arith), long-header l (omega arith), cut-power steps (x .steps .tally .lines) l (omega arith)))

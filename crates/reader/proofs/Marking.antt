@@ -2,7 +2,8 @@
 use mathlib.Core.Path.{_≡_, refl, sym, ap, _∙_}
 use mathlib.Core.Bool.{Bool, true, false, _&&_}
 use mathlib.Core.List.{List, [], _∷_, _++_}
-use Prim.Native.Nat.{ℕ, _+_, _-_, _*_, _/_, _%_, _<_, _≤_}
+use Prim.Native.Nat.{ℕ, zero, suc, _+_, _-_, _*_, _/_, _%_, _<_, _≤_}
+use native.Mathlib.Nat.{add-zero}
 use native.Mathlib.Omega.{arith}
 use lib.Dec.{leb, ltb, eqb}
 use lib.ListN.{length, getD, List·getD-eq-default}
@@ -13,8 +14,9 @@ use Rattle.calendar.specs.Steps.{plainSteps, stepMinutes}
 use Rattle.calendar.specs.Labels.{turnOf, minuteOf, againAt, labelOf}
 use Rattle.notification.specs.Forms.{places}
 use Rattle.notification.specs.Writing.{labelText}
-use Rattle.reader.specs.Walking.{sixAt, six, noMark, timeMark, timesText, halfHours, markOf, Plain, leadingPower, LineAt}
-use Rattle.reader.specs.declared.power.Power.the-variants.{Is}
+use Rattle.reader.specs.Walking.{sixAt, fourAt, six, noMark, timeMark, timesText, halfHours, markOf, Plain, LineAt, TailSays, LineSays}
+use Rattle.reader.specs.declared.power.Power.{Power}
+use Rattle.reader.specs.declared.power.Power.the-variants.{Is, Not}
 
 -- ---- the marks, as a reader makes them
 
@@ -128,7 +130,7 @@ table-mark steps k r i j p a b e =
 -- ---- numbers of bytes
 
 -- two numbers alike, by their last byte and the rest
-peel : (a b p q : ℕ) → a < 256 → b < 256 → a + 256 * p ≡ b + 256 * q → (a ≡ b) × (p ≡ q)
+pub peel : (a b p q : ℕ) → a < 256 → b < 256 → a + 256 * p ≡ b + 256 * q → (a ≡ b) × (p ≡ q)
 peel a b p q h k e = (omega arith, omega arith)
 
 pub record Bytes (a b c d e f : ℕ) : Type 0 where
@@ -166,9 +168,6 @@ same-twelve a b c d e f g h i j k l a' b' c' d' e' f' g' h' i' j' k' l' r s r' s
     (v .0, omega (arith, v .1))
 
 -- the bytes at a place, as a reader reads them
-abbrev fourAt : List ℕ → ℕ → ℕ
-fourAt s a = getD s a 0 + 256 * (getD s (a + 1) 0 + 256 * (getD s (a + 2) 0 + 256 * getD s (a + 3) 0))
-
 pub bytes-at : (s : List ℕ) (a : ℕ) → ((j : ℕ) → getD s j 0 < 256) → Bytes (getD s a 0) (getD s (a + 1) 0) (getD s (a + 2) 0) (getD s (a + 3) 0) (getD s (a + 4) 0) (getD s (a + 5) 0)
 bytes-at s a h = record { b0 = h a; b1 = h (a + 1); b2 = h (a + 2); b3 = h (a + 3); b4 = h (a + 4); b5 = h (a + 5) }
 
@@ -263,15 +262,34 @@ there s i e =
     by-test (ltb i (length s)) (λ t. ltb-true i (length s) t)
     (λ t. absurd (omega (arith, List·getD-eq-default s 0 (ltb-false i (length s) t))))
 
-pub line-at : (s : List ℕ) (at from until v n b : ℕ) → ((i : ℕ) → getD s i 0 < 256)
+-- the six bytes from a place on
+abbrev sixFrom : List ℕ → ℕ → List ℕ
+sixFrom s p =
+    getD s p 0 ∷ getD s (p + 1) 0 ∷ getD s (p + 2) 0 ∷ getD s (p + 3) 0 ∷ getD s (p + 4) 0 ∷ getD s (p + 5) 0 ∷ []
+
+six-byte : (s : List ℕ) (p i : ℕ) → i ≤ 5 → getD (sixFrom s p) i 0 ≡ getD s (p + i) 0
+six-byte s p zero h = ap (λ (j : ℕ). getD s j 0) (sym (add-zero p))
+six-byte s p (suc zero) h = refl
+six-byte s p (suc (suc zero)) h = refl
+six-byte s p (suc (suc (suc zero))) h = refl
+six-byte s p (suc (suc (suc (suc zero)))) h = refl
+six-byte s p (suc (suc (suc (suc (suc zero))))) h = refl
+six-byte s p (suc (suc (suc (suc (suc (suc i)))))) h = absurd (omega arith)
+
+-- what is said of the six bytes after the marks is said of the line
+pub line-says : (s : List ℕ) (at from until d e f : ℕ) (r : Power) → ((i : ℕ) → getD s i 0 < 256)
     → (sixAt s at ≡ from) × (sixAt s (at + 6) ≡ until)
-    → Is v n ≡ leadingPower (getD s (at + 12) 0) (getD s (at + 12 + 1) 0) (getD s (at + 12 + 2) 0) (getD s (at + 12 + 3) 0) (getD s (at + 12 + 4) 0)
-    → b ≡ getD s (at + 12 + n) 0 → b ≡ 10 → LineAt s at from until v (n + 13)
-line-at s at from until v n b h m p q e =
-    let i : at + (n + 13) - 1 ≡ at + 12 + n = omega arith in
-    let j : n + 13 - 13 ≡ n = omega arith in
-    let l = there s (at + 12 + n) (sym q ∙ e) in
-    record { bytes = h; first = m .0; second = m .1; power = ap (λ (o : ℕ). Is v o) j ∙ p; break = ap (λ (o : ℕ). getD s o 0) i ∙ (sym q ∙ e); more = omega arith; within = omega arith }
+    → d ≡ getD s (at + 12 + 3) 0 → e ≡ getD s (at + 12 + 4) 0 → f ≡ getD s (at + 12 + 5) 0
+    → TailSays (getD s (at + 12) 0) (getD s (at + 12 + 1) 0) (getD s (at + 12 + 2) 0) d e f r → LineSays s at from until r
+line-says s at from until d e f Not h m x y z t = tt
+line-says s at from until d e f (Is v n) h m x y z t =
+    let u = rw (x, y, z) at t in
+    let g = u .more in
+    let k = u .few in
+    let i : at + 12 + (n - 13) ≡ at + n - 1 = omega arith in
+    let b : getD s (at + n - 1) 0 ≡ 10 = rw i at (sym (six-byte s (at + 12) (n - 13) (omega arith)) ∙ u .break) in
+    let l = there s (at + n - 1) b in
+    record { bytes = h; first = m .0; second = m .1; power = u .power; break = b; more = omega arith; within = omega arith }
 
 -- the same line, with its marks said otherwise
 pub as-marks : {s : List ℕ} {at v n a b c d : ℕ} → a ≡ c → b ≡ d → LineAt s at a b v n → LineAt s at c d v n

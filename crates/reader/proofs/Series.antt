@@ -1,13 +1,14 @@
 -- What is kept after all steps, however they are told, is what the table says of them: their number, the first fault, the powers.
 use mathlib.Core.Path.{_≡_, refl, sym, ap, subst, _∙_}
-use mathlib.Core.Bool.{Bool, true, false, cond, not, _&&_, _||_}
+use mathlib.Core.Bool.{Bool, true, false, cond, not, _&&_, and-assoc, and-true}
 use mathlib.Core.List.{List, [], _∷_, _++_}
 use Prim.Native.Nat.{ℕ, zero, suc, _+_, _-_, _<_, _≤_, min}
 use native.Mathlib.Nat.{zero-add}
+use native.Mathlib.Numerals.{add-one}
 use native.Mathlib.Omega.{arith}
-use lib.Dec.{leb, eqb}
-use lib.ListN.{length, drop, replicate, set, length-replicate}
-use lib.Seq.{sets, sets-eq}
+use lib.Dec.{eqb}
+use lib.ListN.{length, getD, drop, replicate, set, length-replicate, drop-of-length-le}
+use lib.Seq.{drop-cons, sets, sets-eq}
 use borrow.Author.Tests.{eqb-true, eqb-false, eq-eqb, ne-eqb, lt-leb}
 use Rattle.lists.proofs.Tests.{by-test}
 use Rattle.refusals.specs.Tests.{input, decide}
@@ -21,42 +22,47 @@ use Rattle.notification.specs.Forms.{places, inPlaces, allZero}
 use Rattle.notification.specs.Reading.{accepted, refused}
 use Rattle.notification.specs.declared.Key.{Key}
 use Rattle.notification.specs.declared.Reading.{Reading}
-use Rattle.notification.proofs.Places.{places-filled}
-use Rattle.reader.specs.Folding.{Taken, isPass, oneMore, counted, faulted, credited, judged, stepTaken, takeAll, noSteps, outcomeOf, judgement}
+use Rattle.notification.proofs.Places.{places-filled, places-every, places-zero}
+use Rattle.reader.specs.Folding.{Taken, oneMore, counted, labelsFault, powerFault, faulted, judged, isOver, stepTaken, takeAll, noSteps}
+use Rattle.reader.specs.Folding.{faultOf, outcomeOf, judgement}
 use Rattle.reader.specs.declared.tally.Tally.{Tally}
 use Rattle.reader.specs.declared.tally.LinePower.{LinePower}
 use Rattle.reader.specs.declared.tally.LinePower.the-variants.{Gives, NoLabels, NoPower}
 
 -- ---- what the steps come to
 
-module _ (steps : ℕ) (t : Tally) where
-  pub outcome-lines : (t .lines ≡ steps → ⊥) → No (input Lines) ≡ outcomeOf steps t
+module _ (steps : ℕ) (t : Tally) (ps : List ℕ) where
+  pub outcome-lines : (t .lines ≡ steps → ⊥) → No (input Lines) ≡ outcomeOf steps t ps
   unfolding outcomeOf
   outcome-lines h = rw (ne-eqb (t .lines) steps h)
 
   module _ (h : t .lines ≡ steps) where
-    pub outcome-fault : (r : Refusal) → t .verdict ≡ No r → No r ≡ outcomeOf steps t
+    pub outcome-fault : (r : Refusal) → faultOf t ≡ No r → No r ≡ outcomeOf steps t ps
     unfolding outcomeOf
     outcome-fault r v = rw (eq-eqb (t .lines) steps h, v)
 
-    pub outcome-passed : t .verdict ≡ Pass → t .any ≡ true → Pass ≡ outcomeOf steps t
+    pub outcome-passed : faultOf t ≡ Pass → allZero ps ≡ false → Pass ≡ outcomeOf steps t ps
     unfolding outcomeOf
     outcome-passed v a = rw (eq-eqb (t .lines) steps h, v, a)
 
-    pub outcome-zeros : t .verdict ≡ Pass → t .any ≡ false → No (input Zeros) ≡ outcomeOf steps t
+    pub outcome-zeros : faultOf t ≡ Pass → allZero ps ≡ true → No (input Zeros) ≡ outcomeOf steps t ps
     unfolding outcomeOf
     outcome-zeros v a = rw (eq-eqb (t .lines) steps h, v, a)
 
--- ---- whether a power is not 0
+-- ---- whether every power is 0
 
-pub or-zero : (a b c : Bool) → ((a || not b) || not c) ≡ (a || not (b && c))
-or-zero true b c = refl
-or-zero false true c = refl
-or-zero false false c = refl
+module _ (ps : List ℕ) (so-far : Bool) (i : ℕ) (e : (so-far && allZero (drop i ps)) ≡ allZero ps) where
+  -- one more is looked at
+  pub zero-more : i < length ps → ((so-far && eqb (getD ps i 0) 0) && allZero (drop (i + 1) ps)) ≡ allZero ps
+  unfolding allZero
+  zero-more h =
+      let d : allZero (drop i ps) ≡ (eqb (getD ps i 0) 0 && allZero (drop (i + 1) ps)) = rw (add-one i) (ap allZero (drop-cons ps i 0 h)) in
+      and-assoc so-far (eqb (getD ps i 0) 0) (allZero (drop (i + 1) ps)) ∙ (ap (λ (b : Bool). so-far && b) (sym d) ∙ e)
 
-pub or-none : (a : Bool) → a ≡ (a || false)
-or-none true = refl
-or-none false = refl
+  -- each was looked at
+  pub zero-all : length ps ≤ i → so-far ≡ allZero ps
+  unfolding allZero
+  zero-all h = sym (and-true so-far) ∙ (ap (λ (s : List ℕ). so-far && allZero s) (sym (drop-of-length-le ps h)) ∙ e)
 
 -- ---- the powers in their places
 
@@ -74,6 +80,14 @@ sets-places ps h =
         let e : places ≡ length ps + (places - length ps) = omega arith in
         let d = dropped (length ps) (places - length ps) in
         rw (zero-add, ← d, ← e)
+
+-- in their places, powers are all 0 where they are
+zero-places : (ps : List ℕ) → length ps ≤ places → allZero (inPlaces ps) ≡ allZero ps
+unfolding allZero
+zero-places ps h =
+    by-test (allZero ps)
+    (λ z. places-every ps h (λ (p : ℕ). eqb p 0) refl z ∙ sym z)
+    (λ z. places-zero ps h z ∙ sym z)
 
 -- ---- steps one after another
 
@@ -93,7 +107,7 @@ module _ {A : Type 0} (say : ℕ → A → LinePower) (first steps : ℕ) where
 
   next-count : (x : Taken) (a : A) → next x a .tally .lines ≡ oneMore (x .tally .lines)
   next-count x a =
-      by-test (not (isPass (x .tally .verdict)) || leb steps (x .tally .lines))
+      by-test (isOver steps (x .tally))
       (λ t. rw t)
       (λ t. rw t (judged-count x (say (x .tally .lines) a)))
 
@@ -129,63 +143,69 @@ module _ {A : Type 0} (say : ℕ → A → LinePower) (first steps : ℕ) where
   unfolding takeAll
   takes-cons x y a xs e = ap (λ (z : Taken). take z xs) e
 
-  -- after a fault the verdict stays
-  fault-stays : (x : Taken) (r : Refusal) (xs : List A) → x .tally .verdict ≡ No r → take x xs .tally .verdict ≡ No r
-  unfolding takeAll
-  fault-stays x r [] e = e
-  fault-stays x r (a ∷ xs) e =
+  -- after a fault it stays the first
+  fault-stays : (x : Taken) (xs : List A) → eqb (x .tally .fault) 0 ≡ false → faultOf (take x xs .tally) ≡ faultOf (x .tally)
+  unfolding takeAll faultOf
+  fault-stays x [] e = refl
+  fault-stays x (a ∷ xs) e =
       let y : Taken = record { tally = counted (x .tally); powers = x .powers } in
       let n : next x a ≡ y = rw e in
-      ap (λ (z : Taken). z .tally .verdict) (takes-cons x y a xs n) ∙ fault-stays y r xs e
+      ap (λ (z : Taken). faultOf (z .tally)) (takes-cons x y a xs n) ∙ fault-stays y xs e
 
   -- what is kept after steps that are no more than those left, after no fault
   record Kept (k : ℕ) (x : Taken) (xs : List A) : Type 0 where
-    its-verdict : take x xs .tally .verdict ≡ verdictFrom k xs
-    its-any : verdictFrom k xs ≡ Pass → take x xs .tally .any ≡ (x .tally .any || not (allZero (powersFrom k xs)))
+    its-fault : faultOf (take x xs .tally) ≡ verdictFrom k xs
     its-powers : verdictFrom k xs ≡ Pass → take x xs .powers ≡ sets (x .powers) k (powersFrom k xs)
 
-  refused-kept : (k : ℕ) (x y : Taken) (r : Refusal) (a : A) (xs : List A) → next x a ≡ y → y .tally .verdict ≡ No r → verdictFrom k (a ∷ xs) ≡ No r → Kept k x (a ∷ xs)
-  refused-kept k x y r a xs e v w =
+  refused-kept : (k : ℕ) (x y : Taken) (r : Refusal) (a : A) (xs : List A) → next x a ≡ y
+      → eqb (y .tally .fault) 0 ≡ false → faultOf (y .tally) ≡ No r → verdictFrom k (a ∷ xs) ≡ No r → Kept k x (a ∷ xs)
+  refused-kept k x y r a xs e f v w =
       record {
-        its-verdict = ap (λ (z : Taken). z .tally .verdict) (takes-cons x y a xs e) ∙ (fault-stays y r xs v ∙ sym w);
-        its-any = λ q. refused-pass r (sym w ∙ q);
+        its-fault = ap (λ (z : Taken). faultOf (z .tally)) (takes-cons x y a xs e) ∙ (fault-stays y xs f ∙ (v ∙ sym w));
         its-powers = λ q. refused-pass r (sym w ∙ q);
       }
 
   -- one good step, and those after it
   kept-more : (k p : ℕ) (x y : Taken) (a : A) (xs : List A) → next x a ≡ y → say k a ≡ Gives p
-      → y .tally .any ≡ (x .tally .any || not (eqb p 0)) → y .powers ≡ set (x .powers) k p → Kept (suc k) y xs → Kept k x (a ∷ xs)
-  unfolding verdictFrom powersFrom allZero
-  kept-more k p x y a xs e g m w r =
+      → y .powers ≡ set (x .powers) k p → Kept (suc k) y xs → Kept k x (a ∷ xs)
+  unfolding verdictFrom powersFrom
+  kept-more k p x y a xs e g w r =
       let c = takes-cons x y a xs e in
       let u : verdictFrom k (a ∷ xs) ≡ verdictFrom (suc k) xs = rw g in
       let ps : powersFrom k (a ∷ xs) ≡ p ∷ powersFrom (suc k) xs = rw g in
       record {
-        its-verdict = ap (λ (z : Taken). z .tally .verdict) c ∙ (r .its-verdict ∙ sym u);
-        its-any = λ q. ap (λ (z : Taken). z .tally .any) c ∙ (r .its-any (sym u ∙ q) ∙ (ap (λ (t : Bool). t || not (allZero (powersFrom (suc k) xs))) m ∙ (or-zero (x .tally .any) (eqb p 0) (allZero (powersFrom (suc k) xs)) ∙ ap (λ (z : List ℕ). x .tally .any || not (allZero z)) (sym ps))));
-        its-powers = λ q. ap (λ (z : Taken). z .powers) c ∙ (r .its-powers (sym u ∙ q) ∙ (ap (λ (z : List ℕ). sets z (suc k) (powersFrom (suc k) xs)) w ∙ ap (λ (z : List ℕ). sets (x .powers) k z) (sym ps)));
+        its-fault = ap (λ (z : Taken). faultOf (z .tally)) c ∙ (r .its-fault ∙ sym u);
+        its-powers = λ q. ap (λ (z : Taken). z .powers) c
+            ∙ (r .its-powers (sym u ∙ q)
+            ∙ (ap (λ (z : List ℕ). sets z (suc k) (powersFrom (suc k) xs)) w ∙ ap (λ (z : List ℕ). sets (x .powers) k z) (sym ps)));
       }
 
-  kept : (x : Taken) (xs : List A) → x .tally .verdict ≡ Pass → x .tally .lines + length xs ≤ steps → steps ≤ places → Kept (x .tally .lines) x xs
-  unfolding takeAll verdictFrom powersFrom allZero
-  kept x [] v h g = record { its-verdict = v; its-any = λ q. or-none (x .tally .any); its-powers = λ q. refl }
+  kept : (x : Taken) (xs : List A) → x .tally .fault ≡ 0 → x .tally .lines + length xs ≤ steps → steps ≤ places → Kept (x .tally .lines) x xs
+  unfolding takeAll verdictFrom powersFrom faultOf
+  kept x [] v h g = record { its-fault = rw v; its-powers = λ q. refl }
   kept x (a ∷ xs) v h g = by-said (say (x .tally .lines) a) refl (λ p. kept (with-power x p) xs v (omega arith) g)
     where
       with-power : Taken → ℕ → Taken
-      with-power z p = record { tally = credited (z .tally) p; powers = set (z .powers) (z .tally .lines) p }
+      with-power z p = record { tally = counted (z .tally); powers = set (z .powers) (z .tally .lines) p }
 
       judged-next : next x a ≡ judged first x (say (x .tally .lines) a)
       judged-next = let i : x .tally .lines < steps = omega arith in rw (v, lt-leb steps (x .tally .lines) i)
 
-      by-said : (l : LinePower) → say (x .tally .lines) a ≡ l → ((p : ℕ) → Kept (with-power x p .tally .lines) (with-power x p) xs) → Kept (x .tally .lines) x (a ∷ xs)
+      with-fault : ℕ → Taken
+      with-fault n = record { tally = faulted (x .tally) n (x .tally .lines + first); powers = x .powers }
+
+      by-said : (l : LinePower) → say (x .tally .lines) a ≡ l → ((p : ℕ) → Kept (with-power x p .tally .lines) (with-power x p) xs)
+          → Kept (x .tally .lines) x (a ∷ xs)
       by-said (Gives p) e more =
           let n : with-power x p .tally .lines ≡ suc (x .tally .lines) = omega arith in
-          kept-more (x .tally .lines) p x (with-power x p) a xs (judged-next ∙ rw e) e refl refl
+          kept-more (x .tally .lines) p x (with-power x p) a xs (judged-next ∙ rw e) e refl
           (subst (λ (m : ℕ). Kept m (with-power x p) xs) n (more p))
       by-said NoLabels e more =
-          refused-kept (x .tally .lines) x (record { tally = faulted (x .tally) (Input Labels (x .tally .lines + first)); powers = x .powers }) (Input Labels (x .tally .lines + first)) a xs (judged-next ∙ rw e) refl (rw e)
+          refused-kept (x .tally .lines) x (with-fault labelsFault) (Input Labels (x .tally .lines + first)) a xs
+          (judged-next ∙ rw e) refl refl (rw e)
       by-said NoPower e more =
-          refused-kept (x .tally .lines) x (record { tally = faulted (x .tally) (Input Power (x .tally .lines + first)); powers = x .powers }) (Input Power (x .tally .lines + first)) a xs (judged-next ∙ rw e) refl (rw e)
+          refused-kept (x .tally .lines) x (with-fault powerFault) (Input Power (x .tally .lines + first)) a xs
+          (judged-next ∙ rw e) refl refl (rw e)
 
   -- ---- ALL STEPS
 
@@ -221,14 +241,16 @@ module _ {A : Type 0} (say : ℕ → A → LinePower) (first steps : ℕ) where
 
       by-verdict : (v : Verdict) → verdictFrom 0 xs ≡ v → judgement key steps (end .tally) (end .powers) ≡ told key xs
       unfolding judgement
-      by-verdict (No r) e = rw (← outcome-fault steps (end .tally) count-same r (all-kept .its-verdict ∙ e), eq-eqb (length xs) steps n, e)
+      by-verdict (No r) e =
+          rw (← outcome-fault steps (end .tally) (end .powers) count-same r (all-kept .its-fault ∙ e), eq-eqb (length xs) steps n, e)
       by-verdict Pass e =
-          let v = all-kept .its-verdict ∙ e in
-          let a = all-kept .its-any e in
-          let p : end .powers ≡ inPlaces (powersFrom 0 xs) = all-kept .its-powers e ∙ sets-places (powersFrom 0 xs) (omega (arith, powers-length 0 xs)) in
+          let v = all-kept .its-fault ∙ e in
+          let few-powers : length (powersFrom 0 xs) ≤ places = omega (arith, powers-length 0 xs) in
+          let p : end .powers ≡ inPlaces (powersFrom 0 xs) = all-kept .its-powers e ∙ sets-places (powersFrom 0 xs) few-powers in
+          let o : allZero (end .powers) ≡ allZero (powersFrom 0 xs) = ap allZero p ∙ zero-places (powersFrom 0 xs) few-powers in
           by-test (allZero (powersFrom 0 xs))
-          (λ z. rw (← outcome-zeros steps (end .tally) count-same v (a ∙ ap not z), eq-eqb (length xs) steps n, e, z))
-          (λ z. rw (← outcome-passed steps (end .tally) count-same v (a ∙ ap not z), eq-eqb (length xs) steps n, e, z, p))
+          (λ z. rw (← outcome-zeros steps (end .tally) (end .powers) count-same v (o ∙ z), eq-eqb (length xs) steps n, e, z))
+          (λ z. rw (← outcome-passed steps (end .tally) (end .powers) count-same v (o ∙ z), eq-eqb (length xs) steps n, e, z, p))
 
     pub judged-told : judgement key steps (end .tally) (end .powers) ≡ told key xs
     unfolding judgement
@@ -236,4 +258,4 @@ module _ {A : Type 0} (say : ℕ → A → LinePower) (first steps : ℕ) where
         by-test (eqb (length xs) steps)
         (λ a. by-verdict (eqb-true (length xs) steps a) (verdictFrom 0 xs) refl)
         (λ a. let f = eqb-false (length xs) steps a in
-        rw (← outcome-lines steps (end .tally) (λ (e : end .tally .lines ≡ steps). f (omega (arith, count-end))), a))
+        rw (← outcome-lines steps (end .tally) (end .powers) (λ (e : end .tally .lines ≡ steps). f (omega (arith, count-end))), a))

@@ -2,7 +2,7 @@
 use mathlib.Core.Path.{_≡_, refl, sym, ap, _∙_}
 use mathlib.Core.Bool.{true, not}
 use mathlib.Core.List.{List, [], _∷_}
-use Prim.Native.Nat.{ℕ, zero, suc, _+_, _-_, _<_, _≤_}
+use Prim.Native.Nat.{ℕ, zero, suc, _+_, _<_, _≤_}
 use native.Mathlib.Nat.{zero-add}
 use native.Mathlib.Omega.{arith}
 use lib.Dec.{ltb, eqb}
@@ -22,20 +22,21 @@ use Rattle.notification.specs.Reading.{hasLabels, restOf, powerValue, isPower, 
 use Rattle.notification.specs.declared.Key.{Key}
 use Rattle.notification.specs.declared.Reading.{Reading}
 use Rattle.reader.specs.Walking.{linePower}
-use Rattle.reader.specs.Folding.{Taken, credited, firstLine, takeStep, takeSteps, takeAll, noSteps, judgement}
+use Rattle.reader.specs.Folding.{Taken, counted, firstLine, takeStep, takeSteps, takeAll, noSteps, judgement}
 use Rattle.reader.proofs.Series.{verdictFrom, powersFrom, told, judged-told}
 
 -- ---- one line more
 
-pub takes-cons : (steps : ℕ) (x y : Taken) (l : List ℕ) (ls : List (List ℕ)) → takeStep steps x l ≡ y → takeSteps steps x (l ∷ ls) ≡ takeSteps steps y ls
+pub takes-cons : (steps : ℕ) (x y : Taken) (l : List ℕ) (ls : List (List ℕ)) → takeStep steps x l ≡ y
+    → takeSteps steps x (l ∷ ls) ≡ takeSteps steps y ls
 unfolding takeSteps
 takes-cons steps x y l ls e = ap (λ (z : Taken). takeSteps steps z ls) e
 
 -- a good line after no fault
-pub line-good : (steps : ℕ) (x : Taken) (l : List ℕ) → x .tally .verdict ≡ Pass → x .tally .lines < steps
+pub line-good : (steps : ℕ) (x : Taken) (l : List ℕ) → x .tally .fault ≡ 0 → x .tally .lines < steps
     → hasLabels steps (x .tally .lines) l ≡ true → isPower (restOf steps (x .tally .lines) l) ≡ true
     → takeStep steps x l ≡ record {
-      tally = credited (x .tally) (powerValue (restOf steps (x .tally .lines) l));
+      tally = counted (x .tally);
       powers = set (x .powers) (x .tally .lines) (powerValue (restOf steps (x .tally .lines) l));
     }
 unfolding takeStep linePower
@@ -54,7 +55,8 @@ module _ (steps : ℕ) where
   fault k ls = verdictFrom (linePower steps) firstLine steps k ls
 
   verdict-first : (all : List (List ℕ)) (i n : ℕ) → i + n ≡ length all
-      → fault i (drop i all) ≡ firstMet ((ltb (firstFrom (badLine steps all) i n) (length all), lineRefusal steps all (firstFrom (badLine steps all) i n)) ∷ [])
+      → fault i (drop i all)
+      ≡ firstMet ((ltb (firstFrom (badLine steps all) i n) (length all), lineRefusal steps all (firstFrom (badLine steps all) i n)) ∷ [])
   unfolding verdictFrom firstFrom linePower
   verdict-first all i zero e =
       let h : length all ≤ i = omega arith in
@@ -99,12 +101,14 @@ lineResult key steps ls =
     decide (firstMet (lineTests steps ls)) (accepted (record { key = key; steps = steps; powers = inPlaces (powersIn steps 0 ls) })) refused
 
 module _ (key : Key) (steps : ℕ) (few : steps ≤ places) (ls : List (List ℕ)) where
-  by-verdict : (v : Verdict) → fault steps 0 ls ≡ v → eqb (length ls) steps ≡ true → told (linePower steps) firstLine steps key ls ≡ lineResult key steps ls
+  by-verdict : (v : Verdict) → fault steps 0 ls ≡ v → eqb (length ls) steps ≡ true
+      → told (linePower steps) firstLine steps key ls ≡ lineResult key steps ls
   by-verdict (No r) e n =
       let t = sym (verdict-table steps ls) ∙ e in
       by-test (ltb (firstBad steps ls) (length ls))
       (λ q. let z : No (lineRefusal steps ls (firstBad steps ls)) ≡ No r = rw q at t in
-      rw (n, e, q) (sym (ap (λ (v : Verdict). decide v (accepted (record { key = key; steps = steps; powers = inPlaces (powersIn steps 0 ls) })) refused) z)))
+      rw (n, e, q)
+      (sym (ap (λ (v : Verdict). decide v (accepted (record { key = key; steps = steps; powers = inPlaces (powersIn steps 0 ls) })) refused) z)))
       (λ q. let z : Pass ≡ No r = rw q at t in refused-pass r (sym z))
   by-verdict Pass e n =
       let t = sym (verdict-table steps ls) ∙ e in
@@ -121,7 +125,10 @@ module _ (key : Key) (steps : ℕ) (few : steps ≤ places) (ls : List (List ℕ
       (λ n. by-verdict (fault steps 0 ls) refl n)
       (λ n. rw n)
 
-  pub judged-all : judgement key steps (takeSteps steps (record { tally = noSteps; powers = replicate places 0 }) ls .tally) (takeSteps steps (record { tally = noSteps; powers = replicate places 0 }) ls .powers) ≡ lineResult key steps ls
+  abbrev start : Taken
+  start = record { tally = noSteps; powers = replicate places 0 }
+
+  pub judged-all : judgement key steps (takeSteps steps start ls .tally) (takeSteps steps start ls .powers) ≡ lineResult key steps ls
   judged-all =
-      ap (λ (z : Taken). judgement key steps (z .tally) (z .powers)) (takes-all steps (record { tally = noSteps; powers = replicate places 0 }) ls)
+      ap (λ (z : Taken). judgement key steps (z .tally) (z .powers)) (takes-all steps start ls)
       ∙ (judged-told (linePower steps) firstLine steps key few ls ∙ told-lines)

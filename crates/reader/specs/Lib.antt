@@ -2,3 +2,4 @@
 pub mod Parts
 pub mod Walking
 pub mod Folding
+pub mod InHand

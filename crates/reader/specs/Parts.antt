@@ -1,16 +1,12 @@
--- The key in a text of four parts, as the reader finds it, and the header by it.
-use mathlib.Core.Bool.{Bool, true, false, cond, not, _&&_}
-use mathlib.Core.List.{List, [], _∷_}
+-- The key in a text of four parts, as the reader finds it.
+use mathlib.Core.Bool.{Bool, true, false, cond, _&&_}
+use mathlib.Core.List.{List}
 use Prim.Native.Nat.{ℕ, _+_}
 use lib.Dec.{eqb}
 use lib.ListN.{getD, replicate}
 use Rattle.lists.specs.Searches.{same}
-use Rattle.notification.specs.Writing.{keyText, headerOf}
-use Rattle.notification.specs.Reading.{keyIn, nameKey, validKey, isName, isHeader}
-use Rattle.refusals.specs.Tests.{firstMet}
-use Rattle.refusals.specs.declared.Refusal.the-variants.{Input}
-use Rattle.refusals.specs.declared.InputRefusal.the-variants.{Header, Differs}
-use Rattle.refusals.specs.declared.Verdict.{Verdict}
+use Rattle.notification.specs.Writing.{keyText}
+use Rattle.notification.specs.Reading.{keyIn, nameKey, validKey, isName}
 use Rattle.notification.specs.declared.Key.{Key}
 use Rattle.reader.specs.declared.keys.KeyRead.{KeyRead}
 
@@ -40,12 +36,3 @@ marked name end =
 
 unfoldable pub nameRead : List ℕ → KeyRead
 nameRead name = cond (isName name) (found (nameKey name)) noKey
-
--- what a line 1 that is not the name's header is refused by: 4 where it is a header, else 3
-abbrev pub otherHeader : List ℕ → Verdict
-otherHeader l = firstMet ((not (isHeader l), Input Header 1) ∷ (true, Input Differs 1) ∷ [])
-
--- what line 1 is refused by: 3 where it is no header, 4 where it is not the key's
-unfoldable pub headerVerdict : Key → List ℕ → Verdict
-headerVerdict key l =
-    firstMet ((not (isHeader l), Input Header 1) ∷ (not (same l (headerOf key)), Input Differs 1) ∷ [])

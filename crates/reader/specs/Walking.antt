@@ -79,6 +79,13 @@ timesText =
 abbrev pub sixAt : List ℕ → ℕ → ℕ
 sixAt s i = six (getD s i 0) (getD s (i + 1) 0) (getD s (i + 2) 0) (getD s (i + 3) 0) (getD s (i + 4) 0) (getD s (i + 5) 0)
 
+-- four and eight bytes at a place as one number
+abbrev pub fourAt : List ℕ → ℕ → ℕ
+fourAt s i = getD s i 0 + 256 * (getD s (i + 1) 0 + 256 * (getD s (i + 2) 0 + 256 * getD s (i + 3) 0))
+
+abbrev pub eightAt : List ℕ → ℕ → ℕ
+eightAt s i = fourAt s i + fourAt s (i + 4) * 4294967296
+
 -- the half hours since midnight that a boundary between steps is labelled with
 unfoldable pub halfHours : ℕ → ℕ → ℕ
 halfHours steps at = cond (ltb at (turnOf steps)) at (at + plainSteps - steps)
@@ -92,6 +99,18 @@ pub record Plain (steps k r : ℕ) : Type 0 where
   pub within : r ≤ steps
   pub marks : (i : ℕ) → k ≤ i → i ≤ r → markOf steps i ≡ timeMark (halfHours steps k + (i - k))
   pub small : halfHours steps k + (r - k) < 49
+
+-- six bytes begin with a power, `;` and LF, which end a line of n bytes
+pub record TailAt (a b c d e f v n : ℕ) : Type 0 where
+  pub power : Is v (n - 13) ≡ leadingPower a b c d e
+  pub break : getD (a ∷ b ∷ c ∷ d ∷ e ∷ f ∷ []) (n - 13) 0 ≡ 10
+  pub more : 15 ≤ n
+  pub few : n ≤ 18
+
+-- what is said of six bytes
+abbrev pub TailSays : ℕ → ℕ → ℕ → ℕ → ℕ → ℕ → PowerRead → Type 0
+TailSays a b c d e f (Is v n) = TailAt a b c d e f v n
+TailSays a b c d e f Not = Unit {0}
 
 -- at a place stand two marks, a power and `;`, and LF: n bytes
 pub record LineAt (s : List ℕ) (at from until v n : ℕ) : Type 0 where

@@ -1,19 +1,17 @@
-// The header as the next line: 3 where it is no header, 4 where it isn't the name's.
-ghost use mathlib.Core.Bool.{true};
+// The header as the first line.
 ghost use mathlib.Core.Path.{_≡_};
-ghost use mathlib.Core.List.{[], _∷_, _++_};
-ghost use Prim.Native.Nat.{_+_, _-_, _<_, _≤_};
-ghost use lib.ListN.{length, take, drop};
+ghost use Prim.Native.Nat.{ℕ, _+_, _<_, _≤_};
+ghost use lib.ListN.{length, getD, take, drop};
 ghost use Rattle.lists.specs.Searches.{same};
-ghost use Rattle.notification.specs.Writing.{headerOf};
-ghost use Rattle.notification.specs.Reading.{keyIn};
-ghost use Rattle.reader.specs.Parts.{isKey, otherHeader};
-ghost use Rattle.reader.specs.Walking.{startsWith};
+ghost use Rattle.reader.specs.Walking.{startsWith, eightAt};
+ghost use Rattle.reader.specs.Folding.{otherHeader};
 use crate::keys::is_header;
-use lists::bytes::byte_at;
-use refusals::InputRefusal;
-use refusals::Refusal;
-use refusals::Verdict;
+use crate::marks::four;
+
+// What is found of a line 1 that isn't the name's header, the number of its refusal: it is no header, or another's.
+pub(crate) const NO_HEADER: u32 = 3;
+
+pub(crate) const OTHER_HEADER: u32 = 4;
 
 // Whether two texts are the same. Each byte is looked at, so that many are compared at once.
 pub fn alike(a: &[u8], b: &[u8]) -> bool
@@ -31,56 +29,51 @@ pub fn alike(a: &[u8], b: &[u8]) -> bool
     good
 }
 
-// Whether the same bytes stand from a place to another in both.
-fn alike_at(a: &[u8], b: &[u8], from: usize, to: usize) -> bool
-    requires { ⌜ (from ≤ to) × (to ≤ length (now a)) × (to ≤ length (now b)) ⌝ }
-    ensures { λ r. ⌜ r
-        ≡ same (take (to - from) (drop from (now (a .entry)))) (take (to - from) (drop from (now (b .entry)))) ⌝ }
+// Eight bytes as a number.
+fn eight(s: &[u8], a: usize) -> u64
+    requires { ⌜ a + 8 ≤ length (now s) ⌝ }
+    ensures { λ r. ⌜ r ≡ eightAt (now (s .entry)) a ⌝ }
+    ensures { λ r. ⌜ ((i : ℕ) → getD (now (s .entry)) i 0 < 256) ⌝ }
 {
-    alike(&a[from..to], &b[from..to])
+    four(s, a) + four(s, a + 4) * 4294967296
 }
 
-// Whether a line is the header that a name's four parts give.
-fn is_named(parts: &[u8], line: &[u8]) -> bool
-    requires { ⌜ isKey 95 (now parts) ≡ true ⌝ }
-    ensures { λ r. ⌜ r ≡ same (now (line .entry)) (headerOf (keyIn (now (parts .entry)))) ⌝ }
+// Whether the same eight bytes stand at a place of each text.
+fn same_eight(s: &[u8], a: usize, t: &[u8], i: usize) -> bool
+    requires { ⌜ (a + 8 ≤ length (now s)) × (i + 8 ≤ length (now t)) ⌝ }
+    ensures { λ r. ⌜ r ≡ same (take 8 (drop a (now (s .entry)))) (take 8 (drop i (now (t .entry)))) ⌝ }
 {
-    let n = parts.len();
-    if line.len() != n + 1 {
+    eight(s, a) == eight(t, i)
+}
+
+// Whether a header's line and its LF stand at a place of a text: looked at without searching the line's end.
+pub(crate) fn is_headed(header: &[u8], body: &[u8], from: usize) -> bool
+    requires { ⌜ (50 ≤ length (now header)) × (length (now header) ≤ 51) × (from ≤ length (now body)) ⌝ }
+    ensures { λ r. ⌜ r ≡ startsWith (now (header .entry)) (drop from (now (body .entry))) ⌝ }
+{
+    let n = header.len();
+    if body.len() - from < n {
         return false;
     }
-    alike_at(line, parts, 0, 16)
-        & (line[16] == b';')
-        & alike_at(line, parts, 17, 33)
-        & (line[33] == b';')
-        & alike_at(line, parts, 34, 42)
-        & (line[42] == b';')
-        & alike_at(line, parts, 43, 48)
-        & ((n == 48) | (line[48] == byte_at(parts, 48)))
-        & (line[n] == b';')
+    let last = n - 1;
+    same_eight(header, 0, body, from)
+        & same_eight(header, 8, body, from + 8)
+        & same_eight(header, 16, body, from + 16)
+        & same_eight(header, 24, body, from + 24)
+        & same_eight(header, 32, body, from + 32)
+        & same_eight(header, 40, body, from + 40)
+        & (header[48] == body[from + 48])
+        & (header[49] == body[from + 49])
+        & (header[last] == body[from + last])
 }
 
-// Whether that header and LF stand at a place of a text: looked at without searching the line's end.
-pub(crate) fn is_headed(parts: &[u8], body: &[u8], from: usize) -> bool
-    requires { ⌜ (isKey 95 (now parts) ≡ true) × (from ≤ length (now body)) ⌝ }
-    ensures { λ r. ⌜ r
-        ≡ startsWith (headerOf (keyIn (now (parts .entry))) ++ 10 ∷ []) (drop from (now (body .entry))) ⌝ }
-{
-    let n = parts.len();
-    if body.len() - from < n + 2 {
-        return false;
-    }
-    let end = from + n + 1;
-    is_named(parts, &body[from..end]) & (body[end] == b'\n')
-}
-
-// What a line that isn't that header is refused by.
-pub(crate) fn other_header(line: &[u8]) -> Verdict
+// What is found of a line 1 that isn't the name's header.
+pub(crate) fn other_header(line: &[u8]) -> u32
     ensures { λ r. ⌜ r ≡ otherHeader (now (line .entry)) ⌝ }
 {
     if is_header(line) {
-        Verdict::No(Refusal::Input(InputRefusal::Differs, 1))
+        OTHER_HEADER
     } else {
-        Verdict::No(Refusal::Input(InputRefusal::Header, 1))
+        NO_HEADER
     }
 }

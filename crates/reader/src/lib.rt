@@ -3,6 +3,7 @@ pub mod header;
 mod keys;
 mod lines;
 pub mod marks;
+pub mod pieces;
 pub mod power;
 pub mod reading;
 mod steps;

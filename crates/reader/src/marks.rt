@@ -1,17 +1,18 @@
 // A good line at once: its two labels as numbers, then its power, `;` and LF.
-ghost use mathlib.Core.Bool.{true};
+ghost use mathlib.Core.Bool.{true, cond};
 ghost use mathlib.Core.Path.{_≡_};
 ghost use Prim.Native.Nat.{ℕ, _+_, _*_, _<_, _≤_};
+ghost use lib.Dec.{eqb};
 ghost use lib.ListN.{length, getD};
 ghost use Rattle.notification.specs.Forms.{places};
-ghost use Rattle.reader.specs.Walking.{sixAt, halfHours, Plain, LineSays};
+ghost use Rattle.reader.specs.Walking.{fourAt, sixAt, halfHours, Plain, TailSays, LineSays};
+ghost use Rattle.reader.specs.declared.power.Power.the-variants.{Is, Not};
 use crate::power::Power;
-use crate::power::power_at;
-use crate::power::power_of;
 use calendar::PLAIN_STEPS;
 use calendar::turn_of;
 use lists::bytes::byte_at;
 use lists::numbers::byte;
+use lists::numbers::digit_value;
 
 // The half hours since midnight that a boundary is labelled with.
 pub fn half_hours(steps: u32, at: u32) -> u32
@@ -50,8 +51,7 @@ pub fn run_end(steps: u32, k: u32) -> u32
 // Four bytes as a number.
 pub fn four(s: &[u8], a: usize) -> u64
     requires { ⌜ a + 4 ≤ length (now s) ⌝ }
-    ensures { λ r. ⌜ r ≡ getD (now (s .entry)) a 0 + 256 * (getD (now (s .entry)) (a + 1) 0
-        + 256 * (getD (now (s .entry)) (a + 2) 0 + 256 * getD (now (s .entry)) (a + 3) 0)) ⌝ }
+    ensures { λ r. ⌜ r ≡ fourAt (now (s .entry)) a ⌝ }
     ensures { λ r. ⌜ r < 4294967296 ⌝ }
     ensures { λ r. ⌜ ((i : ℕ) → getD (now (s .entry)) i 0 < 256) ⌝ }
 {
@@ -71,6 +71,59 @@ fn twelve(s: &[u8], a: usize, t: &[u8], i: usize) -> bool
     (here == there) & (four(s, a + 8) == four(t, i + 8))
 }
 
+// The power so far and its line's bytes, where the byte after `;` is LF.
+fn ended(b: u8, v: u32, n: usize) -> Power
+    requires { ⌜ v ≤ 9999 ⌝ }
+    ensures { λ r. ⌜ r ≡ cond (eqb b 10) (Is v n) Not ⌝ }
+{
+    if b == b'\n' {
+        Power::Is(v as u16, n)
+    } else {
+        Power::Not
+    }
+}
+
+// The power, `;` and LF that six bytes begin with, and how many bytes the line has with the twelve of its labels.
+fn tail_of(a: u8, b: u8, c: u8, d: u8, e: u8, f: u8) -> Power
+    ensures { λ r. ⌜ TailSays a b c d e f r ⌝ }
+{
+    let one = digit_value(a);
+    if 9 < one {
+        return Power::Not;
+    }
+    if b == b';' {
+        return ended(c, one, 15);
+    }
+    let next = digit_value(b);
+    if 9 < next {
+        return Power::Not;
+    }
+    if one == 0 {
+        return Power::Not;
+    }
+    let two = one * 10 + next;
+    if c == b';' {
+        return ended(d, two, 16);
+    }
+    let next = digit_value(c);
+    if 9 < next {
+        return Power::Not;
+    }
+    let three = two * 10 + next;
+    if d == b';' {
+        return ended(e, three, 17);
+    }
+    let next = digit_value(d);
+    if 9 < next {
+        return Power::Not;
+    }
+    if e == b';' {
+        ended(f, three * 10 + next, 18)
+    } else {
+        Power::Not
+    }
+}
+
 // The line at a place near the end: two times as in a list of them, a power and `;`, and LF, with how many bytes
 // these are.
 fn last_line(s: &[u8], a: usize, t: &[u8], i: usize) -> Power
@@ -83,40 +136,38 @@ fn last_line(s: &[u8], a: usize, t: &[u8], i: usize) -> Power
     if !twelve(s, a, t, i) {
         return Power::Not;
     }
-    let power = power_at(s, a + 12);
-    match power {
-        Power::Is(v, n) => {
-            if byte_at(s, a + 12 + n) == b'\n' {
-                Power::Is(v, n + 13)
-            } else {
-                Power::Not
-            }
-        }
-        Power::Not => Power::Not,
-    }
+    let p = a + 12;
+    tail_of(
+        s[p],
+        s[p + 1],
+        s[p + 2],
+        byte_at(s, p + 3),
+        byte_at(s, p + 4),
+        byte_at(s, p + 5),
+    )
 }
 
-// The line at a place, where the longest there is has room.
-pub(crate) fn good_line(s: &[u8], a: usize, t: &[u8], i: usize) -> Power
-    requires { ⌜ (a ≤ length (now s)) × (i + 12 ≤ length (now t)) ⌝ }
+// The place that a line has to begin before, so that the longest there is has room.
+pub(crate) fn room_in(s: &[u8]) -> usize
+    ensures { λ r. ⌜ ((a : ℕ) → a < r → a + 18 ≤ length (now (s .entry))) ⌝ }
+{
+    if s.len() < 18 {
+        return 0;
+    }
+    s.len() - 17
+}
+
+// The line at a place, where the longest there is has room before a place that is given.
+pub(crate) fn good_line(s: &[u8], a: usize, room: usize, t: &[u8], i: usize) -> Power
+    requires { ⌜ (a ≤ length (now s)) × (i + 12 ≤ length (now t)) × (a < room → a + 18 ≤ length (now s)) ⌝ }
     ensures { λ r. ⌜ LineSays (now (s .entry)) a (sixAt (now (t .entry)) i) (sixAt (now (t .entry)) (i + 6)) r ⌝ }
 {
-    if s.len() < a + 18 {
+    if room <= a {
         return last_line(s, a, t, i);
     }
     if !twelve(s, a, t, i) {
         return Power::Not;
     }
     let p = a + 12;
-    let power = power_of(s[p], s[p + 1], s[p + 2], s[p + 3], s[p + 4]);
-    match power {
-        Power::Is(v, n) => {
-            if s[p + n] == b'\n' {
-                Power::Is(v, n + 13)
-            } else {
-                Power::Not
-            }
-        }
-        Power::Not => Power::Not,
-    }
+    tail_of(s[p], s[p + 1], s[p + 2], s[p + 3], s[p + 4], s[p + 5])
 }

@@ -1,22 +1,20 @@
 // The reader (document 01, "Refusals that come from the input"): name, body, header, then line by line.
-ghost use mathlib.Core.Bool.{true};
 ghost use mathlib.Core.Path.{_≡_};
-ghost use Rattle.notification.specs.Reading.{keyIn, linesIn, isBody, refused, readFile};
-ghost use Rattle.reader.specs.Parts.{isKey};
-ghost use Rattle.reader.specs.Folding.{outcomeOf, judgement, withPowers, concluded, linesRead};
-use crate::keys::name_key;
+ghost use Rattle.notification.specs.Forms.{allZero};
+ghost use Rattle.notification.specs.Reading.{refused, readFile};
+ghost use Rattle.reader.specs.Folding.{outcomeOf, judgement, withPowers, headerSaid, concluded};
+use crate::header::NO_HEADER;
+use crate::header::OTHER_HEADER;
 use crate::lines::FileTally;
-use crate::lines::take_lines;
+use crate::pieces::FileReader;
 use crate::tally::Tally;
-use calendar::steps_of;
+use crate::tally::fault_of;
 use notification::Key;
 use notification::Notification;
 use notification::Reading;
 use refusals::InputRefusal;
 use refusals::Refusal;
 use refusals::Verdict;
-
-const MOST_BYTES: usize = 4096;
 
 // A refusal, beside a blank notification.
 pub fn refuse(r: Refusal) -> Reading
@@ -39,32 +37,34 @@ pub fn refuse(r: Refusal) -> Reading
     }
 }
 
-// Whether a body isn't empty, isn't too long, and ends with LF.
-fn is_body(body: &[u8]) -> bool
-    ensures { λ r. ⌜ r ≡ isBody (now (body .entry)) ⌝ }
+// Whether every power is 0. Each is looked at, so that many are compared at once.
+fn is_zero(powers: [u16; 50]) -> bool
+    ensures { λ r. ⌜ r ≡ allZero powers ⌝ }
 {
-    let n = body.len();
-    if n < 1 {
-        return false;
+    let mut zero = true;
+    let mut i: usize = 0;
+    while i < 50 {
+        zero = zero & (powers[i] == 0);
+        i += 1;
     }
-    (n <= MOST_BYTES) & (body[n - 1] == b'\n')
+    zero
 }
 
 // What the lines come to: their number, the first fault, whether a power isn't 0.
-pub fn outcome(steps: u32, t: Tally) -> Verdict
-    ensures { λ r. ⌜ r ≡ outcomeOf steps t ⌝ }
+pub fn outcome(steps: u32, t: Tally, powers: [u16; 50]) -> Verdict
+    ensures { λ r. ⌜ r ≡ outcomeOf steps t powers ⌝ }
 {
     if t.lines != steps {
         return Verdict::No(Refusal::Input(InputRefusal::Lines, 0));
     }
-    let verdict = t.verdict;
-    match verdict {
+    let fault = fault_of(t);
+    match fault {
         Verdict::No(r) => Verdict::No(r),
         Verdict::Pass => {
-            if t.any {
-                Verdict::Pass
-            } else {
+            if is_zero(powers) {
                 Verdict::No(Refusal::Input(InputRefusal::Zeros, 0))
+            } else {
+                Verdict::Pass
             }
         }
     }
@@ -74,7 +74,7 @@ pub fn outcome(steps: u32, t: Tally) -> Verdict
 fn judge(key: Key, steps: u32, t: Tally, powers: [u16; 50]) -> Reading
     ensures { λ r. ⌜ r ≡ judgement key steps t powers ⌝ }
 {
-    let verdict = outcome(steps, t);
+    let verdict = outcome(steps, t, powers);
     match verdict {
         Verdict::No(r) => refuse(r),
         Verdict::Pass => {
@@ -87,11 +87,24 @@ fn judge(key: Key, steps: u32, t: Tally, powers: [u16; 50]) -> Reading
     }
 }
 
+// What the header is refused by.
+fn header_said(found: u32) -> Verdict
+    ensures { λ r. ⌜ r ≡ headerSaid found ⌝ }
+{
+    if found == NO_HEADER {
+        return Verdict::No(Refusal::Input(InputRefusal::Header, 1));
+    }
+    if found == OTHER_HEADER {
+        return Verdict::No(Refusal::Input(InputRefusal::Differs, 1));
+    }
+    Verdict::Pass
+}
+
 // What a file's lines come to: the header's refusal, else what the steps come to.
-fn conclude(key: Key, steps: u32, t: FileTally, powers: [u16; 50]) -> Reading
+pub(crate) fn conclude(key: Key, steps: u32, t: FileTally, powers: [u16; 50]) -> Reading
     ensures { λ r. ⌜ r ≡ concluded key steps (withPowers t powers) ⌝ }
 {
-    let header = t.header;
+    let header = header_said(t.header);
     let tally = t.steps;
     match header {
         Verdict::No(r) => refuse(r),
@@ -99,39 +112,11 @@ fn conclude(key: Key, steps: u32, t: FileTally, powers: [u16; 50]) -> Reading
     }
 }
 
-// What the lines of a body come to under a key, of which a name's four parts are given: 3 to 8.
-fn read_lines(key: Key, parts: &[u8], body: &[u8]) -> Reading
-    requires { ⌜ (isKey 95 (now parts) ≡ true) × (key ≡ keyIn (now parts)) ⌝ }
-    ensures { λ r. ⌜ r ≡ linesRead key (linesIn (now (body .entry))) ⌝ }
-{
-    let steps = steps_of(key.day);
-    let start = FileTally {
-        headed: false,
-        header: Verdict::Pass,
-        steps: Tally {
-            lines: 0,
-            verdict: Verdict::Pass,
-            any: false,
-        },
-    };
-    let mut powers = [0u16; 50];
-    let run = take_lines(start, parts, steps, body, 0, &mut powers);
-    let tally = run.tally;
-    conclude(key, steps, tally, powers)
-}
-
-// Reads a file: the notification, or the first refusal of 1 to 8.
+// Reads a file: the notification, or the first refusal of 1 to 8. The body is one piece.
 pub fn read_file(name: &[u8], body: &[u8]) -> Reading
     ensures { λ r. ⌜ r ≡ readFile (now (name .entry)) (now (body .entry)) ⌝ }
 {
-    let read = name_key(name);
-    if !read.good {
-        return refuse(Refusal::Input(InputRefusal::Name, 0));
-    }
-    if !is_body(body) {
-        return refuse(Refusal::Input(InputRefusal::Body, 0));
-    }
-    let end = name.len() - 4;
-    let key = read.key;
-    read_lines(key, &name[4..end], body)
+    let fresh = FileReader::begin(name);
+    let fed = fresh.feed(body);
+    fed.end()
 }

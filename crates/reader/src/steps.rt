@@ -9,6 +9,7 @@ ghost use Rattle.reader.specs.Folding.{takeStep, takeSteps, RunOn};
 ghost use Rattle.notification.specs.Reading.{linesIn};
 use crate::marks::good_line;
 use crate::marks::half_hours;
+use crate::marks::room_in;
 use crate::marks::run_end;
 use crate::power::Power;
 use crate::power::power_at;
@@ -17,7 +18,6 @@ use crate::tally::Tally;
 use crate::tally::count;
 use crate::tally::is_over;
 use crate::tally::note;
-use crate::tally::one_if;
 use calendar::labels_of;
 use lists::bytes::byte_from;
 
@@ -102,7 +102,6 @@ fn good_run(t: Tally, steps: u32, body: &[u8], from: usize, powers: &mut [u16; 5
     if is_over(t, steps) {
         return Run { tally: t, at: from };
     }
-    let verdict = t.verdict;
     let mut k = t.lines;
     let stop = run_end(steps, k);
     if stop <= k {
@@ -114,14 +113,13 @@ fn good_run(t: Tally, steps: u32, body: &[u8], from: usize, powers: &mut [u16; 5
         16:00;16:30;17:00;17:30;18:00;18:30;19:00;19:30;20:00;20:30;21:00;21:30;22:00;22:30;23:00;23:30;\
         24:00;";
     let mut i = half_hours(steps, k) as usize * 6;
-    let mut sum = one_if(t.any);
     let mut at = from;
+    let room = room_in(body);
     while k < stop {
-        let line = good_line(body, at, times, i);
+        let line = good_line(body, at, room, times, i);
         match line {
             Power::Is(power, n) => {
                 powers[k as usize] = power;
-                sum += power as u32;
                 at += n;
                 k += 1;
                 i += 6;
@@ -133,8 +131,8 @@ fn good_run(t: Tally, steps: u32, body: &[u8], from: usize, powers: &mut [u16; 5
     }
     let tally = Tally {
         lines: k,
-        verdict,
-        any: sum != 0,
+        fault: t.fault,
+        place: t.place,
     };
     Run { tally, at }
 }

@@ -1,11 +1,9 @@
 // What is kept while a day's steps are told one after another, in lines or otherwise: their number, the first fault,
 // the powers.
-ghost use mathlib.Core.Bool.{not};
 ghost use mathlib.Core.Path.{_≡_};
 ghost use Prim.Native.Nat.{_+_, _<_, _≤_, min};
-ghost use lib.Dec.{eqb};
 ghost use Rattle.notification.specs.Forms.{places};
-ghost use Rattle.reader.specs.Folding.{isPass, counted, faulted, credited, isOver, judged};
+ghost use Rattle.reader.specs.Folding.{counted, faulted, isOver, judged, faultOf};
 use refusals::InputRefusal;
 use refusals::Refusal;
 use refusals::Verdict;
@@ -13,11 +11,17 @@ use refusals::Verdict;
 // More steps than any day has are counted as one more than that.
 const MOST_LINES: u32 = 51;
 
-// What the steps so far have shown.
+// The fault of a step whose labels are wrong, and of one whose power is: the number of the refusal. 0 is no fault.
+const LABELS: u32 = 6;
+
+const POWER: u32 = 7;
+
+// What the steps so far have shown: how many there were, the first fault, and its place.
+#[repr(C)]
 pub struct Tally {
     pub lines: u32,
-    pub verdict: Verdict,
-    pub any: bool,
+    pub fault: u32,
+    pub place: u32,
 }
 
 // What is said of a step.
@@ -25,15 +29,6 @@ pub enum LinePower {
     Gives(u16),
     NoLabels,
     NoPower,
-}
-
-pub fn is_pass(v: Verdict) -> bool
-    ensures { λ r. ⌜ r ≡ isPass v ⌝ }
-{
-    match v {
-        Verdict::Pass => true,
-        Verdict::No(_) => false,
-    }
 }
 
 fn one_more(lines: u32) -> u32
@@ -50,34 +45,21 @@ fn one_more(lines: u32) -> u32
 pub fn count(t: Tally) -> Tally
     ensures { λ r. ⌜ r ≡ counted t ⌝ }
 {
-    let verdict = t.verdict;
     Tally {
         lines: one_more(t.lines),
-        verdict,
-        any: t.any,
+        fault: t.fault,
+        place: t.place,
     }
 }
 
 // A step more, which is the first with a fault.
-fn fault(t: Tally, r: Refusal) -> Tally
-    ensures { λ x. ⌜ x ≡ faulted t r ⌝ }
+fn fault(t: Tally, number: u32, place: u32) -> Tally
+    ensures { λ r. ⌜ r ≡ faulted t number place ⌝ }
 {
     Tally {
         lines: one_more(t.lines),
-        verdict: Verdict::No(r),
-        any: t.any,
-    }
-}
-
-// A step more, with its power.
-fn credit(t: Tally, power: u16) -> Tally
-    ensures { λ r. ⌜ r ≡ credited t power ⌝ }
-{
-    let verdict = t.verdict;
-    Tally {
-        lines: one_more(t.lines),
-        verdict,
-        any: t.any | (power != 0),
+        fault: number,
+        place,
     }
 }
 
@@ -85,8 +67,7 @@ fn credit(t: Tally, power: u16) -> Tally
 pub fn is_over(t: Tally, steps: u32) -> bool
     ensures { λ r. ⌜ r ≡ isOver steps t ⌝ }
 {
-    let verdict = t.verdict;
-    !is_pass(verdict) | (steps <= t.lines)
+    (t.fault != 0) | (steps <= t.lines)
 }
 
 // The next step of the day, by what is said of it: its power in its place, or the first fault. The place of the first
@@ -100,16 +81,22 @@ pub fn note(t: Tally, first: u32, said: LinePower, powers: &mut [u16; 50]) -> Ta
     match said {
         LinePower::Gives(v) => {
             powers[k as usize] = v;
-            credit(t, v)
+            count(t)
         }
-        LinePower::NoLabels => fault(t, Refusal::Input(InputRefusal::Labels, k + first)),
-        LinePower::NoPower => fault(t, Refusal::Input(InputRefusal::Power, k + first)),
+        LinePower::NoLabels => fault(t, LABELS, k + first),
+        LinePower::NoPower => fault(t, POWER, k + first),
     }
 }
 
-// 1 where a power wasn't 0 before, so that the sum of the powers after it isn't 0 either.
-pub fn one_if(any: bool) -> u32
-    ensures { λ r. ⌜ (not (eqb r 0) ≡ any) × (r ≤ 1) ⌝ }
+// What the first fault is refused by.
+pub(crate) fn fault_of(t: Tally) -> Verdict
+    ensures { λ r. ⌜ r ≡ faultOf t ⌝ }
 {
-    if any { 1 } else { 0 }
+    if t.fault == 0 {
+        return Verdict::Pass;
+    }
+    if t.fault == LABELS {
+        return Verdict::No(Refusal::Input(InputRefusal::Labels, t.place));
+    }
+    Verdict::No(Refusal::Input(InputRefusal::Power, t.place))
 }

@@ -1,6 +1,6 @@
 -- A filing can be made on every register whose arrays have their places: it is refused as it is read or judged, or its record and the changed
 -- records before it are put.
-use mathlib.Core.Path.{_≡_, refl, sym, subst, _∙_, ap}
+use mathlib.Core.Path.{_≡_, refl, sym, _∙_, ap}
 use mathlib.Core.Bool.{Bool}
 use mathlib.Core.List.{List, []}
 use Prim.Native.Nat.{ℕ, _+_, _<_}
@@ -14,6 +14,7 @@ use Rattle.refusals.specs.Tests.{firstMet}
 use Rattle.refusals.specs.declared.Verdict.{Verdict}
 use Rattle.refusals.specs.declared.Verdict.the-variants.{Pass, No}
 use Rattle.notification.specs.declared.Notification.{Notification}
+use Rattle.notification.specs.declared.Reading.{Reading}
 use Rattle.ledger.specs.Ledger.{actorAt}
 use Rattle.ledger.specs.Call.{Form, Call, csv, json, readForm, file}
 use Rattle.ledger.specs.Filing.{keyOf, statusBy, placeTests}
@@ -25,29 +26,27 @@ use Rattle.recording.specs.Recording.{pairsBelow}
 use Rattle.recording.proofs.Puts.{put-length}
 use Rattle.recording.proofs.AllChanged.{Made, all-made}
 use Rattle.register.specs.View.{Register, lent, held}
-use Rattle.register.specs.Written.{withRecords, does, seen}
+use Rattle.register.specs.Written.{withRecords, Done, does, doesNote, doesReading, seen}
 use Rattle.register.specs.Judging.{keyAt, Placed, Fileable}
 use Rattle.register.specs.declared.Head.{Head}
 use Rattle.register.specs.declared.verdicts.Places.{Places}
 use Rattle.register.proofs.Filings.{fileable-of}
-use Rattle.register.proofs.Notes.{note-refused, note-passed, form-unread, form-read}
+use Rattle.register.proofs.Notes.{note-refused, note-passed, reading-refused, reading-passed, reading-does}
 use Rattle.register.proofs.Records.{recorded, record-done}
 use Rattle.register.proofs.Runs.{Did, did-file, did-object}
 use Rattle.register.proofs.Sized.{Sized, ref, Next}
 
--- the called function ensures what the ledger does, of the head, the columns and the answer that a filing leaves
-abbrev Ensures : Register → Call → Type 1
-Ensures r c = (h : Head) (w : Columns) (y : Answer) → seen (lent h w (r .loads)) y ≡ does r c → Did r c y (lent h w (r .loads))
+-- what is seen of a filing: a head, columns that have their places, the loads as they were lent, and an answer
+pub record Seen (r : Register) (d : Done) : Type 0 where
+  pub head : Head
+  pub columns : Columns
+  pub answer : Answer
+  pub sized : Sized (lent head columns (r .loads))
+  pub is : seen (lent head columns (r .loads)) answer ≡ d
 
--- ---- a form, whichever
+-- ---- a notification, whichever
 
-module _ (r : Register) (u : List ℕ) (form : Form) (ensured : Ensures r (file SevenDays u form)) where
-  abbrev filing : Call
-  filing = file SevenDays u form
-
-  abbrev note : Notification
-  note = readForm u form .notification
-
+module _ (r : Register) (u : List ℕ) (note : Notification) where
   abbrev ps : List ℕ
   ps = note .powers
 
@@ -59,16 +58,6 @@ module _ (r : Register) (u : List ℕ) (form : Form) (ensured : Ensures r (file 
 
   placed : Placed (held r) u note at
   placed = record { key = refl; by = refl }
-
-  -- a call that leaves a register, and its answer
-  next-is : (s : Register) (y : Answer) → s .loads ≡ r .loads → Sized s → seen s y ≡ does r filing → Next r filing
-  next-is s y same z e =
-      record {
-        answer = y;
-        register = lent (s .head) (s .columns) (r .loads);
-        did = ensured (s .head) (s .columns) y (ap (λ ls. seen (lent (s .head) (s .columns) ls) y) (sym same) ∙ e);
-        sized = subst (λ ls. Sized (lent (s .head) (s .columns) ls)) same z;
-      }
 
   module _ (z : Sized r) (can : Fileable (r .head) at) where
     abbrev h : Head
@@ -132,27 +121,57 @@ module _ (r : Register) (u : List ℕ) (form : Form) (ensured : Ensures r (file 
               };
         }
 
-  -- the form is read, and then judged by its places
-  by-places : Sized r → readForm u form .verdict ≡ Pass → (v : Verdict) →
-      v ≡ firstMet (placeTests (held r) SevenDays (keyAt at) (at .submitter) ps) → Next r filing
-  by-places z read (No f) e =
-      next-is r (Refused f) refl z
-      (form-read r SevenDays u form _ refl read _ (note-refused r SevenDays u note at placed (No f) e f refl))
-  by-places z read Pass e =
+  -- it is judged by its places
+  by-places : Sized r → (v : Verdict) → v ≡ firstMet (placeTests (held r) SevenDays (keyAt at) (at .submitter) ps) →
+      Seen r (doesNote r SevenDays u note)
+  by-places z (No f) e =
+      record {
+        head = r .head;
+        columns = r .columns;
+        answer = Refused f;
+        sized = z;
+        is = note-refused r SevenDays u note at placed (No f) e f refl;
+      }
+  by-places z Pass e =
       let can = fileable-of (r .head) (r .columns) (r .loads) SevenDays at ps (sym e) in
       let s = z .records in
       let done = record-done (r .head) (r .loads) (r .columns) at ps _ _ _ _ _ (made z can .next) (made z can .after) can
       (s .statuses) (s .ids) (s .keys) (s .marks) (s .rows) refl refl refl refl refl (made z can .changes) in
-      next-is (filed z can) (answer z can) refl (filed-sized z can)
-      (form-read r SevenDays u form _ refl read _ (note-passed r SevenDays u note at placed Pass e refl _ done))
+      record {
+        head = filed z can .head;
+        columns = filed z can .columns;
+        answer = answer z can;
+        sized = filed-sized z can;
+        is = note-passed r SevenDays u note at placed Pass e refl _ done;
+      }
 
-  -- a filing, by what reading its form comes to
-  by-reading : Sized r → (v : Verdict) → readForm u form .verdict ≡ v → Next r filing
-  by-reading z (No f) e = next-is r (Refused f) refl z (form-unread r SevenDays u form _ refl f e)
-  by-reading z Pass e = by-places z e _ refl
+-- ---- a form, whichever
 
-  next-form : Sized r → Next r filing
-  next-form z = by-reading z _ refl
+-- what it was read as, whatever it was
+module _ (r : Register) (u : List ℕ) (x : Reading) where
+  by-reading : Sized r → (v : Verdict) → x .verdict ≡ v → Seen r (doesReading r SevenDays u x)
+  by-reading z (No f) e =
+      record { head = r .head; columns = r .columns; answer = Refused f; sized = z; is = reading-refused r SevenDays u x f e }
+  by-reading z Pass e =
+      let y = by-places r u (x .notification) z _ refl in
+      record { head = y .head; columns = y .columns; answer = y .answer; sized = y .sized; is = reading-passed r SevenDays u x e _ (y .is) }
+
+  pub reading-seen : Sized r → Seen r (doesReading r SevenDays u x)
+  reading-seen z = by-reading z _ refl
+
+-- the called function ensures what the ledger does, of the head, the columns and the answer that a filing leaves
+abbrev Ensures : Register → Call → Type 1
+Ensures r c = (h : Head) (w : Columns) (y : Answer) → seen (lent h w (r .loads)) y ≡ does r c → Did r c y (lent h w (r .loads))
+
+next-form : (r : Register) (u : List ℕ) (form : Form) → Ensures r (file SevenDays u form) → Sized r → Next r (file SevenDays u form)
+next-form r u form ensured z =
+    let y = reading-seen r u (readForm u form) z in
+    record {
+      answer = y .answer;
+      register = lent (y .head) (y .columns) (r .loads);
+      did = ensured (y .head) (y .columns) (y .answer) (y .is ∙ reading-does r SevenDays u form _ refl);
+      sized = y .sized;
+    }
 
 -- ---- a file, an object
 

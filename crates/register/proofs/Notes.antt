@@ -1,8 +1,8 @@
 -- From a notification's verdict to what filing it does, and from what a form is read as to what the call does.
-use mathlib.Core.Path.{_≡_, sym, _∙_, ap, ap₂}
+use mathlib.Core.Path.{_≡_, refl, sym, _∙_, ap, ap₂}
 use mathlib.Core.List.{List}
 use Prim.Native.Nat.{ℕ}
-use Rattle.refusals.specs.Tests.{firstMet, decide}
+use Rattle.refusals.specs.Tests.{firstMet}
 use Rattle.refusals.specs.declared.Refusal.{Refusal}
 use Rattle.refusals.specs.declared.Verdict.{Verdict}
 use Rattle.refusals.specs.declared.Verdict.the-variants.{Pass, No}
@@ -11,14 +11,14 @@ use Rattle.notification.specs.declared.Reading.{Reading}
 use Rattle.notification.specs.Reading.{readFile}
 use Rattle.ledger.specs.Call.{Form, csv, readForm, file}
 use Rattle.ledger.specs.Filing.{filingTests, placeTests}
-use Rattle.ledger.specs.Calls.{verdictOf, refusedBy, stepNote}
+use Rattle.ledger.specs.Calls.{verdictOf, stepNote, step}
 use Rattle.ledger.specs.declared.Answer.the-variants.{Refused}
 use Rattle.ledger.specs.declared.Entry.{Entry}
 use Rattle.ledger.proofs.Steps.{step-file}
 use Rattle.register.specs.declared.verdicts.Places.{Places}
 use Rattle.register.specs.View.{Register, held}
 use Rattle.register.specs.Judging.{keyAt, Placed, filesAt}
-use Rattle.register.specs.Written.{Done, writes, leaves, does, doesNote, seen}
+use Rattle.register.specs.Written.{Done, writes, leaves, does, doesNote, doesReading, seen}
 
 -- ---- a notification, by its places
 
@@ -43,24 +43,28 @@ pub file-read : (u name body : List ℕ) (x : Reading) → x ≡ readFile name b
 unfolding readForm
 file-read u name body x e = e
 
--- where the form is read, the call does what filing its notification does; where it isn't, nothing
+-- a form that was read: where it is refused, nothing is done; else what filing its notification does
+module _ (r : Register) (entry : Entry) (u : List ℕ) (x : Reading) where
+  pub reading-refused : (f : Refusal) → x .verdict ≡ No f → seen r (Refused f) ≡ doesReading r entry u x
+  reading-refused f g = rw g refl
+
+  pub reading-passed : x .verdict ≡ Pass → (d : Done) → d ≡ doesNote r entry u (x .notification) → d ≡ doesReading r entry u x
+  reading-passed g d w = rw g w
+
+-- THE CALL DOES WHAT THE REGISTER DOES WITH THE FORM AS IT IS READ
 module _ (r : Register) (entry : Entry) (u : List ℕ) (form : Form) where
-  read-register : (v : Verdict) → readForm u form .verdict ≡ v →
-      decide v (doesNote r entry u (readForm u form .notification) .register) (λ f. r) ≡ leaves r (file entry u form)
+  read-register : (v : Verdict) → readForm u form .verdict ≡ v → leaves r (file entry u form) ≡ doesReading r entry u (readForm u form) .register
   unfolding leaves verdictOf writes
   read-register Pass e = rw e
   read-register (No f) e = rw e
 
-  module _ (x : Reading) (e : x ≡ readForm u form) where
-    pub form-unread : (f : Refusal) → x .verdict ≡ No f → seen r (Refused f) ≡ does r (file entry u form)
-    form-unread f g =
-        let k : readForm u form .verdict ≡ No f = ap (λ (y : Reading). y .verdict) (sym e) ∙ g in
-        ap₂ (λ s o. record { register = s; outcome = o }) (read-register (No f) k)
-        (sym (step-file (held r) entry u form ∙ ap (λ v. decide v (stepNote (held r) entry u (readForm u form .notification)) (refusedBy (held r))) k))
+  read-outcome : (v : Verdict) → readForm u form .verdict ≡ v → step (held r) (file entry u form) ≡ doesReading r entry u (readForm u form) .outcome
+  read-outcome Pass e = step-file (held r) entry u form ∙ rw e refl
+  read-outcome (No f) e = step-file (held r) entry u form ∙ rw e refl
 
-    pub form-read : x .verdict ≡ Pass → (d : Done) → d ≡ doesNote r entry u (x .notification) → d ≡ does r (file entry u form)
-    form-read g d w =
-        let k : readForm u form .verdict ≡ Pass = ap (λ (y : Reading). y .verdict) (sym e) ∙ g in
-        w ∙ ap (λ (y : Reading). doesNote r entry u (y .notification)) e
-        ∙ ap₂ (λ s o. record { register = s; outcome = o }) (read-register Pass k)
-        (sym (step-file (held r) entry u form ∙ ap (λ v. decide v (stepNote (held r) entry u (readForm u form .notification)) (refusedBy (held r))) k))
+  pub does-reading : does r (file entry u form) ≡ doesReading r entry u (readForm u form)
+  does-reading = ap₂ (λ s o. record { register = s; outcome = o }) (read-register _ refl) (read-outcome _ refl)
+
+  -- by what it was read as
+  pub reading-does : (x : Reading) → x ≡ readForm u form → doesReading r entry u x ≡ does r (file entry u form)
+  reading-does x e = ap (doesReading r entry u) e ∙ sym does-reading

@@ -31,6 +31,7 @@ use Rattle.register.proofs.Head.load.Reads as load-reads
 use Rattle.register.proofs.Head.file.Reads as file-reads
 use Rattle.register.proofs.Head.file_object.Reads as object-reads
 use Rattle.register.proofs.Head.file_note.Reads as note-reads
+use Rattle.register.proofs.Head.file_reading.Reads as reading-reads
 use Rattle.register.proofs.Head.advance.Reads as advance-reads
 use Rattle.register.proofs.Head.engagement.Reads as engagement-reads
 use Rattle.register.proofs.Head.record.Reads as record-reads
@@ -41,6 +42,7 @@ use Rattle.register.proofs.Head.load as load-fn
 use Rattle.register.proofs.Head.file as file-fn
 use Rattle.register.proofs.Head.file_object as object-fn
 use Rattle.register.proofs.Head.file_note as note-fn
+use Rattle.register.proofs.Head.file_reading as reading-fn
 use Rattle.register.proofs.Head.advance as advance-fn
 use Rattle.register.proofs.Head.engagement as engagement-fn
 use Rattle.register.proofs.Head.record as record-fn
@@ -139,6 +141,7 @@ pub record AsksNothing : Type 1 where
   pub file : (κs : Lifetimes.Lfts 11) (a : World.ArgsD file-fn.signature κs) → file-reads.Asked κs a
   pub file-object : (κs : Lifetimes.Lfts 10) (a : World.ArgsD object-fn.signature κs) → object-reads.Asked κs a
   pub file-note : (κs : Lifetimes.Lfts 9) (a : World.ArgsD note-fn.signature κs) → note-reads.Asked κs a
+  pub file-reading : (κs : Lifetimes.Lfts 9) (a : World.ArgsD reading-fn.signature κs) → reading-reads.Asked κs a
   pub advance : (a : World.ArgsD advance-fn.signature tt) → advance-reads.Asked tt a
   pub engagement : (κs : Lifetimes.Lfts 8) (a : World.ArgsD engagement-fn.signature κs) → engagement-reads.Asked κs a
   pub record-of : (κs : Lifetimes.Lfts 6) (a : World.ArgsD record-fn.signature κs) → record-reads.Asked κs a
@@ -154,6 +157,7 @@ asks-nothing =
       file = λ κs a. tt;
       file-object = λ κs a. tt;
       file-note = λ κs a. tt;
+      file-reading = λ κs a. tt;
       advance = λ a. tt;
       engagement = λ κs a. tt;
       record-of = λ κs a. tt;

@@ -10,9 +10,10 @@ use Rattle.calendar.specs.declared.clock.Clock.{Clock}
 use Rattle.refusals.specs.Tests.{firstMet, decide}
 use Rattle.notification.specs.Forms.{sixBytes, inPlaces}
 use Rattle.notification.specs.declared.Notification.{Notification}
+use Rattle.notification.specs.declared.Reading.{Reading}
 use Rattle.ledger.specs.Ledger.{Key, Rec, actorPlaces, categoryPlaces, recordPlaces, actorAt, categoryAt}
 use Rattle.ledger.specs.Call.{readForm, Call, enrolActor, enrolCategory, load, file, advance}
-use Rattle.ledger.specs.Calls.{Outcome, verdictOf, stepNote, step, moment}
+use Rattle.ledger.specs.Calls.{Outcome, verdictOf, refusedBy, stepNote, step, moment}
 use Rattle.ledger.specs.Filing.{nobody, keyOf, filingTests, pairs, changed, statusBy, nextId}
 use Rattle.ledger.specs.declared.Answer.{Answer}
 use Rattle.ledger.specs.declared.Entry.{Entry}
@@ -113,6 +114,11 @@ doesNote r entry submitter n =
       register = decide (firstMet (filingTests (held r) entry submitter n)) (notePut r submitter n) (λ f. r);
       outcome = stepNote (held r) entry submitter n;
     }
+
+-- and of a form, by what it was read as: the refusal where there is one, else its notification
+abbrev pub doesReading : Register → Entry → List ℕ → Reading → Done
+doesReading r entry submitter x =
+    decide (x .verdict) (doesNote r entry submitter (x .notification)) (λ f. record { register = r; outcome = refusedBy (held r) f })
 
 -- what is seen of a call: the register after it, the ledger that this holds, and the answer
 abbrev pub seen : Register → Answer → Done

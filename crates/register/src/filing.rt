@@ -5,7 +5,7 @@ ghost use Rattle.ledger.specs.Filing.{statusBy};
 ghost use Rattle.tables.specs.Tables.{LoadColumns, columns, loadColumns};
 ghost use Rattle.register.specs.View.{lent};
 ghost use Rattle.register.specs.Judging.{keyAt, Fileable, UnderListed, filesAt};
-ghost use Rattle.register.specs.Written.{seen, does, doesNote};
+ghost use Rattle.register.specs.Written.{seen, does, doesNote, doesReading};
 use crate::Head;
 use crate::Reply;
 use crate::verdicts::Places;
@@ -193,6 +193,48 @@ impl Head {
         )
     }
 
+    // Files a form by its submitter's code and what it was read as.
+    pub fn file_reading(
+        self,
+        statuses: &mut [u8; 256],
+        ids: &mut [u32; 256],
+        keys: &mut [u32; 256],
+        marks: &mut [[u8; 4]; 256],
+        rows: &mut [[u16; 50]; 256],
+        numbers: &[u32; 64],
+        approved: &[u16; 64],
+        loads: &[[u16; 50]; 64],
+        submitter: &[u8],
+        reading: Reading,
+    ) -> Reply
+        ensures { λ r. ⌜ seen (lent (r .head)
+            (columns (now (statuses .exit)) (now (ids .exit)) (now (keys .exit)) (now (marks .exit)) (now (rows .exit)))
+            (loadColumns (now (numbers .entry)) (now (approved .entry)) (now (loads .entry)))) (r .answer)
+            ≡ doesReading (lent self
+            (columns (now (statuses .entry)) (now (ids .entry)) (now (keys .entry)) (now (marks .entry))
+            (now (rows .entry)))
+            (loadColumns (now (numbers .entry)) (now (approved .entry)) (now (loads .entry))))
+            Entry.SevenDays (now (submitter .entry)) reading ⌝ }
+    {
+        let verdict = reading.verdict;
+        if let Verdict::No(r) = verdict {
+            return self.refused(r);
+        }
+        self.file_note(
+            statuses,
+            ids,
+            keys,
+            marks,
+            rows,
+            numbers,
+            approved,
+            loads,
+            Entry::SevenDays,
+            submitter,
+            reading.notification,
+        )
+    }
+
     // Files a notification file by its submitter's code, its name and its body.
     pub fn file(
         self,
@@ -218,11 +260,7 @@ impl Head {
             (file Entry.SevenDays (now (submitter .entry)) (csv (now (name .entry)) (now (body .entry)))) ⌝ }
     {
         let reading = read_file(name, body);
-        let verdict = reading.verdict;
-        if let Verdict::No(r) = verdict {
-            return self.refused(r);
-        }
-        self.file_note(
+        self.file_reading(
             statuses,
             ids,
             keys,
@@ -231,9 +269,8 @@ impl Head {
             numbers,
             approved,
             loads,
-            Entry::SevenDays,
             submitter,
-            reading.notification,
+            reading,
         )
     }
 
@@ -261,11 +298,7 @@ impl Head {
             (file Entry.SevenDays (now (submitter .entry)) (json (now (body .entry)))) ⌝ }
     {
         let reading = read_from(submitter, body);
-        let verdict = reading.verdict;
-        if let Verdict::No(r) = verdict {
-            return self.refused(r);
-        }
-        self.file_note(
+        self.file_reading(
             statuses,
             ids,
             keys,
@@ -274,9 +307,8 @@ impl Head {
             numbers,
             approved,
             loads,
-            Entry::SevenDays,
             submitter,
-            reading.notification,
+            reading,
         )
     }
 }

@@ -3,6 +3,7 @@ ghost use mathlib.Core.Path.{_≡_};
 ghost use lib.ListN.{length};
 ghost use Rattle.notification.specs.Reading.{readFile};
 ghost use Rattle.notification.specs.Writing.{nameOf, bodyOf, writeVerdict, writeAnswer, written};
+ghost use Rattle.reader.specs.InHand.{inHand, begun, fed, ended};
 ghost use Rattle.register_c.specs.Faces.{flatOf, noteToWrite, flatWritten};
 use crate::asking::number;
 use crate::asking::place;
@@ -10,6 +11,7 @@ use notification::Key;
 use notification::Notification;
 use notification::Reading;
 use notification::Written;
+use reader::pieces::FileReader;
 use reader::reading::read_file;
 use refusals::Refusal;
 use writer::writing::write_file;
@@ -112,6 +114,30 @@ pub extern "C" fn notification_read(name: &[u8], body: &[u8]) -> FileRead
     ensures { λ r. ⌜ r ≡ flatOf (readFile (now (name .entry)) (now (body .entry))) ⌝ }
 {
     flat(read_file(name, body))
+}
+
+// Begins a file by its name; its body comes in pieces.
+#[no_mangle]
+pub extern "C" fn notification_begin(name: &[u8]) -> FileReader
+    ensures { λ r. ⌜ inHand r ≡ begun (now (name .entry)) ⌝ }
+{
+    FileReader::begin(name)
+}
+
+// Feeds a piece of the body: each is handed in once, cut anywhere.
+#[no_mangle]
+pub extern "C" fn notification_feed(reader: FileReader, piece: &[u8]) -> FileReader
+    ensures { λ r. ⌜ inHand r ≡ fed (inHand reader) (now (piece .entry)) ⌝ }
+{
+    reader.feed(piece)
+}
+
+// Ends a file: what its name and all its pieces joined are read as.
+#[no_mangle]
+pub extern "C" fn notification_end(reader: FileReader) -> FileRead
+    ensures { λ r. ⌜ r ≡ flatOf (ended (inHand reader)) ⌝ }
+{
+    flat(reader.end())
 }
 
 // Writes a notification's name and body into two lent buffers, the rest of both untouched, and gives their lengths. A

@@ -1,55 +1,68 @@
-// The bodies of the files that lines name.
+// The files that lines name: each is read as its bytes come, and its body is not gathered.
 ghost use Prim.Native.Nat.{_≤_};
-ghost use lib.ListN.{length};
 use crate::trying::read_some;
+use lists::numbers::least_length;
+use notification::Reading;
+use reader::pieces::FileReader;
+use reader::reading::refuse;
+use refusals::InputRefusal;
+use refusals::Refusal;
 
-// What is known of a file's body: whether it can be read, and how many bytes of it are in the lent buffer.
-pub(crate) struct Body {
+// The most bytes that are asked for of a file: one more than a body may have, which tells one that is too long.
+const BODY: usize = 4097;
+
+// What is known of a file: whether it can be read, and what it is read as.
+pub(crate) struct File {
     pub(crate) readable: bool,
-    pub(crate) length: usize,
+    pub(crate) reading: Reading,
 }
 
 // A file that can't be read.
-pub(crate) fn unread() -> Body
-    ensures { λ r. ⌜ r .length ≤ 0 ⌝ }
-{
-    Body {
+pub(crate) fn unread() -> File {
+    File {
         readable: false,
-        length: 0,
+        reading: refuse(Refusal::Input(InputRefusal::Body, 0)),
     }
 }
 
-// Reads a file to its end or to the buffer's. A read that brings few bytes is not the last.
-fn read_to_end(fd: i32, body: &mut [u8]) -> Body
-    ensures { λ r. ⌜ r .length ≤ length (now (body .exit)) ⌝ }
+// How many of the bytes that are still asked for are done with by a read of n bytes: all of them at the file's end.
+fn done_with(n: usize, left: usize) -> usize
+    ensures { λ r. ⌜ (r ≤ left) × (1 ≤ left → 1 ≤ r) ⌝ }
 {
+    if n == 0 {
+        return left;
+    }
+    least_length(n, left)
+}
+
+// Reads a file to its end, or until its body is too long: each part that comes is fed to the reader, at the end an
+// empty one, and then its bytes are forgotten. A read that brings few bytes is not the last.
+fn read_to_end(fd: i32, name: &[u8], part: &mut [u8]) -> File {
+    let mut reader = FileReader::begin(name);
     let mut done: usize = 0;
-    while done < body.len() {
-        let got = read_some(fd, &mut body[done..]);
+    while done < BODY {
+        let got = read_some(fd, &mut *part);
         if got < 0 {
             return unread();
         }
-        let n = io::count(got, &body[done..]);
-        if n == 0 {
-            break;
-        }
-        done += n;
+        let n = io::count(got, &*part);
+        let fed = reader.feed(&part[..n]);
+        reader = fed;
+        done += done_with(n, BODY - done);
     }
-    Body {
+    File {
         readable: true,
-        length: done,
+        reading: reader.end(),
     }
 }
 
-// Opens a file once, reads its body and closes it.
-pub(crate) fn read_named(name: &[u8], body: &mut [u8]) -> Body
-    ensures { λ r. ⌜ r .length ≤ length (now (body .exit)) ⌝ }
-{
+// Opens a file once, reads it and closes it. A part of it at a time stands in the lent buffer.
+pub(crate) fn read_named(name: &[u8], part: &mut [u8]) -> File {
     let fd = os::open_read(name);
     if fd < 0 {
         return unread();
     }
-    let read = read_to_end(fd, body);
+    let file = read_to_end(fd, name, part);
     libc::close(fd);
-    read
+    file
 }

@@ -18,8 +18,8 @@ const BLOCK: usize = 32768;
 // The most bytes of answers that wait to be written: few, so that a short run touches little memory.
 const WAITING: usize = 16384;
 
-// The most bytes that are read of a file: one more than a body may have, which tells one that is too long.
-const BODY: usize = 4097;
+// The most bytes that are read of a file at once.
+const PART: usize = 4096;
 
 // Answers standard input to its end. 0: every answer was written; 1: the answers can't be written; 2: the input can't
 // be read.
@@ -36,7 +36,7 @@ pub extern "C" fn register_script() -> u32
     let mut numbers = [0u32; 64];
     let mut approved = [0u16; 64];
     let mut loads = [[0u16; 50]; 64];
-    let mut body = [0u8; BODY];
+    let mut part = [0u8; PART];
     let mut input = [0u8; BLOCK];
     let mut output = [0u8; WAITING];
     running::run(
@@ -49,7 +49,7 @@ pub extern "C" fn register_script() -> u32
         &mut numbers,
         &mut approved,
         &mut loads,
-        &mut body,
+        &mut part,
         &mut input,
         &mut output,
     )

@@ -30,7 +30,7 @@ pub(crate) fn run(
     numbers: &mut [u32; 64],
     approved: &mut [u16; 64],
     loads: &mut [[u16; 50]; 64],
-    body: &mut [u8],
+    part: &mut [u8],
     input: &mut [u8],
     output: &mut [u8],
 ) -> u32
@@ -47,7 +47,7 @@ pub(crate) fn run(
     let mut turns = u64::MAX;
     while turns > 0 {
         turns -= 1;
-        let n = file.length;
+        let reading = file.reading;
         let far = answer_lines(
             head,
             statuses,
@@ -65,7 +65,7 @@ pub(crate) fn run(
             out,
             given,
             file.readable,
-            &body[..n],
+            reading,
         );
         head = far.head;
         number = far.number;
@@ -73,7 +73,8 @@ pub(crate) fn run(
         out = far.out;
         let wants = far.wants;
         if let Wants::File(from, to) = wants {
-            file = read_named(&input[from..to], body);
+            let found = read_named(&input[from..to], &mut *part);
+            file = found;
             given = true;
             continue;
         }

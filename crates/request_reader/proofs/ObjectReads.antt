@@ -186,13 +186,17 @@ module _ (s : List ℕ) (few : length s ≤ objectMost) where
     pub object-read : (k : Key) (x : Taken) (origin : List ℕ) (moment : Moment) → k ≡ key
         → x ≡ tellAll steps (record { tally = noSteps; powers = replicate places 0 }) ss
         → origin ≡ textAt 11 ts → moment ≡ momentIn (textAt 23 ts)
-        → decide (outcomeOf steps (x .tally)) (accepted (record { notification = record { key = k; steps = steps; powers = x .powers }; origin = origin; moment = moment })) refused
+        → decide (outcomeOf steps (x .tally) (x .powers))
+        (accepted (record { notification = record { key = k; steps = steps; powers = x .powers }; origin = origin; moment = moment })) refused
         ≡ readObject s
     unfolding judgement
     object-read k x origin moment ek ex eo em =
         let e : judgement k steps (x .tally) (x .powers) ≡ told (saidAt steps) firstStep steps key ss =
-        ap (λ (z : Key). judgement z steps (x .tally) (x .powers)) ek ∙ (ap (λ (z : Taken). judgement key steps (z .tally) (z .powers)) ex ∙ judged-told (saidAt steps) firstStep steps key (steps-small (dayRead ts)) ss) in
-        rw (eo, em) (by-notification (outcomeOf steps (x .tally)) (record { key = k; steps = steps; powers = x .powers }) ∙ (ap concluded e ∙ all-steps))
+        ap (λ (z : Key). judgement z steps (x .tally) (x .powers)) ek
+        ∙ (ap (λ (z : Taken). judgement key steps (z .tally) (z .powers)) ex
+        ∙ judged-told (saidAt steps) firstStep steps key (steps-small (dayRead ts)) ss) in
+        rw (eo, em)
+        (by-notification (outcomeOf steps (x .tally) (x .powers)) (record { key = k; steps = steps; powers = x .powers }) ∙ (ap concluded e ∙ all-steps))
 
 -- ---- by the places that the reader has found
 
@@ -260,7 +264,7 @@ module _ (s : List ℕ) (few : length s ≤ objectMost) (a b from : ℕ) (ceder 
         pub series-lost : good ≡ false → refused (input Object) ≡ readObject s
         series-lost g = no-object s few (its-object ∙ g)
 
-        pub series-found : (v : Verdict) → good ≡ true → x ≡ record { tally = noSteps; powers = replicate places 0 } → v ≡ outcomeOf steps (y .tally)
+        pub series-found : (v : Verdict) → good ≡ true → x ≡ record { tally = noSteps; powers = replicate places 0 } → v ≡ outcomeOf steps (y .tally) (y .powers)
             → decide v (accepted (record {
               notification = record {
                 key = record { ceder = ceder; acquirer = acquirer; category = category; day = day .day };

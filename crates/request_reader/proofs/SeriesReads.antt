@@ -14,7 +14,7 @@ use Rattle.lists.proofs.Tests.{by-test, true-false, or-right}
 use Rattle.notification.specs.Forms.{isDigit}
 use Rattle.reader.specs.declared.tally.LinePower.{LinePower}
 use Rattle.reader.specs.declared.tally.Tally.{Tally}
-use Rattle.reader.specs.Folding.{Taken, isPass, isOver, counted, judged, stepTaken, takeAll, noSteps}
+use Rattle.reader.specs.Folding.{Taken, isOver, counted, judged, stepTaken, takeAll}
 use Rattle.request.specs.Tokens.{isBlank, quote, onto, tokensFrom, tokens, fits, is}
 use Rattle.request.specs.Objects.{Step}
 use Rattle.request.specs.Writing.{objectMost, hourLabel}
@@ -98,7 +98,7 @@ pub told-same : (first steps : ℕ) (x : Taken) (said other : LinePower) → (x 
 told-same first steps x said other f =
     by-test (isOver steps (x .tally))
     (λ t. rw t)
-    (λ t. let h = leb-false steps (x .tally .lines) (or-right (not (isPass (x .tally .verdict))) (leb steps (x .tally .lines)) t) in
+    (λ t. let h = leb-false steps (x .tally .lines) (or-right (not (eqb (x .tally .fault) 0)) (leb steps (x .tally .lines)) t) in
     ap (λ (l : LinePower). stepTaken first steps x l) (f h))
 
 pub next-told : (steps k k' : ℕ) (from until s : List ℕ) (at next : ℕ) (x y : Taken) (said : LinePower) → k ≡ min (x .tally .lines) steps → k' ≡ min (k + 1) steps

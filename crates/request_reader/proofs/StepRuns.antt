@@ -1,16 +1,15 @@
 -- The reader's walk from one step's power to the next: what is kept there and the tokens after it say what was said before it.
 use mathlib.Core.Path.{_≡_, refl, sym, ap, _∙_}
-use mathlib.Core.Bool.{true, not, _||_}
+use mathlib.Core.Bool.{true}
 use mathlib.Core.List.{List, [], _∷_, _++_}
 use Prim.Native.Nat.{ℕ, suc, _+_, _<_, _≤_, min}
 use native.Mathlib.Omega.{arith}
-use lib.Dec.{eqb, ltb}
+use lib.Dec.{ltb}
 use lib.ListN.{length, drop, set, length-drop}
 use borrow.Author.Tests.{lt-leb}
 use Rattle.lists.specs.Searches.{every, same}
 use Rattle.lists.proofs.Tests.{and-right}
 use Rattle.lists.proofs.Searches.{same-refl}
-use Rattle.refusals.specs.declared.Verdict.the-variants.{Pass}
 use Rattle.notification.specs.Forms.{isDigit, places}
 use Rattle.reader.specs.declared.power.Power.the-variants.{Is}
 use Rattle.reader.specs.declared.tally.LinePower.{LinePower}
@@ -100,16 +99,16 @@ module _ (from until digits : List ℕ) where
 
 -- what is kept after a step of the day that gives a power, after no fault
 abbrev pub oneTold : Tally → List ℕ → ℕ → Taken
-oneTold t ps v = record { tally = record { lines = t .lines + 1; verdict = Pass; any = t .any || not (eqb v 0) }; powers = set ps (t .lines) v }
+oneTold t ps v = record { tally = record { lines = t .lines + 1; fault = 0; place = t .place }; powers = set ps (t .lines) v }
 
 power-told : (steps v : ℕ) (t : Tally) (ps : List ℕ) (said : LinePower)
-    → t .verdict ≡ Pass → t .lines < steps → steps ≤ places → Gives v ≡ said
+    → t .fault ≡ 0 → t .lines < steps → steps ≤ places → Gives v ≡ said
     → oneTold t ps v ≡ stepTaken firstStep steps (record { tally = t; powers = ps }) said
 power-told steps v t ps said p h g e =
     let m : min (t .lines + 1) 51 ≡ t .lines + 1 = omega arith in
     rw (← e, p, lt-leb steps (t .lines) h, m)
 
-module _ (steps : ℕ) (s : List ℕ) (at next v : ℕ) (t : Tally) (ps : List ℕ) (p : t .verdict ≡ Pass) (h : t .lines < steps) (g : steps ≤ places)
+module _ (steps : ℕ) (s : List ℕ) (at next v : ℕ) (t : Tally) (ps : List ℕ) (p : t .fault ≡ 0) (h : t .lines < steps) (g : steps ≤ places)
     (lead : List (List ℕ)) (f : FrontAt lead (hourLabel steps (t .lines)) (hourLabel steps (suc (t .lines))) s at next v) where
   abbrev front : List (List ℕ)
   front = frontOf (hourLabel steps (t .lines)) (hourLabel steps (suc (t .lines))) (f .digits) ++ tokens (drop next s)

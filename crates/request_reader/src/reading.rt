@@ -68,7 +68,7 @@ fn read_text(body: &[u8]) -> RequestRead
     if !series.good {
         return refuse(Refusal::Input(InputRefusal::Object, 0));
     }
-    let verdict = outcome(steps, series.tally);
+    let verdict = outcome(steps, series.tally, powers);
     match verdict {
         Verdict::No(r) => refuse(r),
         Verdict::Pass => {

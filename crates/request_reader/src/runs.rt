@@ -26,8 +26,6 @@ use reader::marks::run_end;
 use reader::power::Power;
 use reader::tally::Tally;
 use reader::tally::is_over;
-use reader::tally::one_if;
-use refusals::Verdict;
 
 // The labels of a day of fewer steps, which there is none of, don't go on to its midnight.
 const FEWEST_STEPS: u32 = 4;
@@ -126,14 +124,12 @@ fn plain_run(
     let mut k = t.lines;
     let stop = run_end(steps, k);
     let mut i = half_hours(steps, k) as usize * 10;
-    let mut sum = one_if(t.any);
     let mut at = from;
     while k < stop {
         let front = plain_next(s, at, labels, i);
         match front {
             Power::Is(power, n) => {
                 powers[k as usize] = power;
-                sum += power as u32;
                 at += n;
                 k += 1;
                 i += 10;
@@ -145,8 +141,8 @@ fn plain_run(
     }
     let tally = Tally {
         lines: k,
-        verdict: Verdict::Pass,
-        any: sum != 0,
+        fault: 0,
+        place: t.place,
     };
     Stepped { tally, at }
 }
@@ -171,17 +167,15 @@ fn laid_run(
     if is_over(t, steps) | (steps < FEWEST_STEPS) {
         return Stepped { tally: t, at: from };
     }
-    let mut k = t.lines;
-    let stop = run_end(steps, k);
-    let mut i = half_hours(steps, k) as usize * 10;
-    let mut sum = one_if(t.any);
+    let stop = run_end(steps, t.lines) as usize;
+    let mut i = half_hours(steps, t.lines) as usize * 10;
+    let mut k = t.lines as usize;
     let mut at = from;
     while k < stop {
         let front = laid_front(s, at, lead, l, labels, i);
         match front {
             Power::Is(power, n) => {
-                powers[k as usize] = power;
-                sum += power as u32;
+                powers[k] = power;
                 at += n;
                 k += 1;
                 i += 10;
@@ -192,9 +186,9 @@ fn laid_run(
         }
     }
     let tally = Tally {
-        lines: k,
-        verdict: Verdict::Pass,
-        any: sum != 0,
+        lines: k as u32,
+        fault: 0,
+        place: t.place,
     };
     Stepped { tally, at }
 }
@@ -290,8 +284,8 @@ pub(crate) fn first_step(
             powers[0] = power;
             let tally = Tally {
                 lines: 1,
-                verdict: Verdict::Pass,
-                any: t.any | (power != 0),
+                fault: 0,
+                place: t.place,
             };
             StepTold {
                 tally,
@@ -343,8 +337,8 @@ pub(crate) fn listed_step(
             powers[k as usize] = power;
             let tally = Tally {
                 lines: k + 1,
-                verdict: Verdict::Pass,
-                any: t.any | (power != 0),
+                fault: 0,
+                place: t.place,
             };
             StepTold {
                 tally,

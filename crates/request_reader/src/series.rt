@@ -24,7 +24,6 @@ use reader::tally::Tally;
 use reader::tally::count;
 use reader::tally::is_over;
 use reader::tally::note;
-use refusals::Verdict;
 use request::labels::hour_label;
 
 // The place of the first step.
@@ -142,15 +141,15 @@ pub(crate) fn take_series(s: &[u8], from: usize, steps: u32, powers: &mut [u16; 
             good: is_closed(s, first),
             tally: Tally {
                 lines: 0,
-                verdict: Verdict::Pass,
-                any: false,
+                fault: 0,
+                place: 0,
             },
         };
     }
     let mut tally = Tally {
         lines: 0,
-        verdict: Verdict::Pass,
-        any: false,
+        fault: 0,
+        place: 0,
     };
     let mut at = first;
     // The place after the power before the step at `at`; at the first step that step's.

@@ -11,16 +11,18 @@ use types.Run.{OneOf}
 use denote.Enum.Declared.{tagOf}
 use borrow.Author.Tests.{not-true, not-false}
 use Rattle.lists.proofs.Tests.{true-false}
+use Rattle.notification.specs.declared.Reading.{Reading}
 use Rattle.ledger.specs.Ledger.{Ledger}
 use Rattle.ledger.specs.Asking.{askEngagement, askRecord}
 use Rattle.ledger.specs.declared.Engaged.{Engaged}
+use Rattle.ledger.specs.declared.Entry.the-variants.{SevenDays}
 use Rattle.ledger.specs.declared.Shown.{Shown}
 use Rattle.answers.specs.Values.{saidEngaged, saidShown, saidRefused}
 use Rattle.answers.specs.declared.Said.{Said}
 use Rattle.register.specs.View.{Register, held}
-use Rattle.register.specs.Written.{does}
+use Rattle.register.specs.Written.{does, doesReading}
 use Rattle.register.specs.Told.{told, tells}
-use Rattle.script.specs.Lines.{Asked, calls, fileOf, engagement, recordOf, unknown, filing}
+use Rattle.script.specs.Lines.{Asked, calls, fileOf, engagement, recordOf, unknown}
 use Rattle.script.specs.Spans.{firstText, secondText, powersOf, callOf, askedOf, asked}
 use Rattle.script.specs.declared.reading.CallKind.{CallKind}
 use Rattle.script.specs.declared.reading.Kind.{Kind}
@@ -30,13 +32,13 @@ use Rattle.script.proofs.reading.Kind as kind-type
 use Rattle.session.specs.Lines.{noCall, onlyAsks, askStep, lineStep}
 
 -- A LINE THAT ONLY ASKS is answered as the definition of a line's step has it
-pub asks-only : (r : Register) (readable : Bool) (body : List ℕ) (a : Asked) → onlyAsks a ≡ true → lineStep r readable body a ≡ tells r (askStep (held r) a)
+pub asks-only : (r : Register) (readable : Bool) (reading : Reading) (a : Asked) → onlyAsks a ≡ true → lineStep r readable reading a ≡ tells r (askStep (held r) a)
 unfolding onlyAsks askStep lineStep
-asks-only r readable body (calls c) e = true-false true refl (sym e)
-asks-only r readable body (fileOf submitter name) e = true-false true refl (sym e)
-asks-only r readable body (engagement actor category day s) e = refl
-asks-only r readable body (recordOf asker id) e = refl
-asks-only r readable body unknown e = refl
+asks-only r readable reading (calls c) e = true-false true refl (sym e)
+asks-only r readable reading (fileOf submitter name) e = true-false true refl (sym e)
+asks-only r readable reading (engagement actor category day s) e = refl
+asks-only r readable reading (recordOf asker id) e = refl
+asks-only r readable reading unknown e = refl
 
 -- ---- by its kind
 
@@ -109,18 +111,18 @@ module _ (line : List ℕ) (r : Line) where
     none-said t f = f ∙ none-of (firstText line r) (secondText line r) (r .day) (r .number) (powersOf line r) l (r .kind) t
 
   -- what a line does
-  module _ (reg : Register) (readable : Bool) (body : List ℕ) where
+  module _ (reg : Register) (readable : Bool) (reading : Reading) where
     pub calls-line : {call : CallKind} → r .kind ≡ Calls call →
-        told (does reg (callOf call (firstText line r) (secondText line r) (r .day) (r .number) (powersOf line r))) ≡ lineStep reg readable body (asked line r)
+        told (does reg (callOf call (firstText line r) (secondText line r) (r .day) (r .number) (powersOf line r))) ≡ lineStep reg readable reading (asked line r)
     unfolding lineStep
-    calls-line e = ap (lineStep reg readable body) (sym (asked-by e))
+    calls-line e = ap (lineStep reg readable reading) (sym (asked-by e))
 
-    pub files-line : r .kind ≡ Files → lineStep reg readable body (fileOf (firstText line r) (secondText line r)) ≡ lineStep reg readable body (asked line r)
-    files-line e = ap (lineStep reg readable body) (sym (asked-by e))
+    pub files-line : r .kind ≡ Files → lineStep reg readable reading (fileOf (firstText line r) (secondText line r)) ≡ lineStep reg readable reading (asked line r)
+    files-line e = ap (lineStep reg readable reading) (sym (asked-by e))
 
-    pub asks-line : OneOf (2 ∷ 3 ∷ 4 ∷ []) (tagOf kind-type.the-type (r .kind)) → tells reg (askStep (held reg) (asked line r)) ≡ lineStep reg readable body (asked line r)
+    pub asks-line : OneOf (2 ∷ 3 ∷ 4 ∷ []) (tagOf kind-type.the-type (r .kind)) → tells reg (askStep (held reg) (asked line r)) ≡ lineStep reg readable reading (asked line r)
     unfolding asked
-    asks-line t = sym (asks-only reg readable body _ (asks-of (firstText line r) (secondText line r) (r .day) (r .number) (powersOf line r) (r .kind) t))
+    asks-line t = sym (asks-only reg readable reading _ (asks-of (firstText line r) (secondText line r) (r .day) (r .number) (powersOf line r) (r .kind) t))
 
 -- ---- calls
 
@@ -134,11 +136,12 @@ pub counted : (n : ℕ) (powers : List ℕ) → n ≤ length powers → n ≡ le
 counted n powers h = sym (length-take-le n powers h)
 
 -- a file that can't be read, and one that can
-module _ (reg : Register) (readable : Bool) (body : List ℕ) where
-  pub none-filed : (x y : List ℕ) {said : Said} → not readable ≡ true → said ≡ saidRefused noCall → tells reg said ≡ lineStep reg readable body (fileOf x y)
+module _ (reg : Register) (readable : Bool) (reading : Reading) where
+  pub none-filed : (x y : List ℕ) {said : Said} → not readable ≡ true → said ≡ saidRefused noCall → tells reg said ≡ lineStep reg readable reading (fileOf x y)
   unfolding lineStep
   none-filed x y e f = rw (not-true readable e, f) refl
 
-  pub one-filed : {x x' y y' : List ℕ} → not readable ≡ false → x ≡ x' → y ≡ y' → told (does reg (filing x y body)) ≡ lineStep reg readable body (fileOf x' y')
+  pub one-filed : {x x' : List ℕ} (y : List ℕ) → not readable ≡ false → x ≡ x' →
+      told (doesReading reg SevenDays x reading) ≡ lineStep reg readable reading (fileOf x' y)
   unfolding lineStep
-  one-filed e f g = rw (not-false readable e, f, g) refl
+  one-filed y e f = rw (not-false readable e, f) refl

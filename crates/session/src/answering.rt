@@ -8,13 +8,14 @@ ghost use Rattle.session.specs.Lines.{lineStep};
 use crate::asking::ask;
 use crate::calling::called;
 use crate::calling::filed;
+use notification::Reading;
 use register::Head;
 use register::turning::Turn;
 use script::reading::Kind;
 use script::reading::Line;
 
-// Answers a line, by what was read of it. `readable` says whether the file that the line names can be read, and `body`
-// has its bytes.
+// Answers a line, by what was read of it. `readable` says whether the file that the line names can be read, and
+// `reading` what it was read as.
 pub fn answer(
     head: Head,
     statuses: &mut [u8; 256],
@@ -28,7 +29,7 @@ pub fn answer(
     line: &[u8],
     read: Line,
     readable: bool,
-    body: &[u8],
+    reading: Reading,
 ) -> Turn
     ensures { λ r. ⌜
         tells
@@ -40,7 +41,7 @@ pub fn answer(
         (lent head (columns (now (statuses .entry)) (now (ids .entry)) (now (keys .entry)) (now (marks .entry))
         (now (rows .entry)))
         (loadColumns (now (numbers .entry)) (now (approved .entry)) (now (loads .entry))))
-        readable (now (body .entry)) (asked (now (line .entry)) read) ⌝ }
+        readable reading (asked (now (line .entry)) read) ⌝ }
 {
     let kind = read.kind;
     match kind {
@@ -58,7 +59,7 @@ pub fn answer(
             line,
             read,
             readable,
-            body,
+            reading,
         ),
         _ => {
             let said = ask(

@@ -9,6 +9,7 @@ ghost use Rattle.script.specs.Spans.{firstText, secondText, powersOf, callOf};
 ghost use Rattle.session.specs.Lines.{lineStep};
 use crate::asking::NO_CALL;
 use answers::refused;
+use notification::Reading;
 use register::Head;
 use register::turning::Turn;
 use register::turning::turned;
@@ -66,8 +67,8 @@ pub(crate) fn called(
     }
 }
 
-// A filing, by what was read of its line. `readable` says whether the file that it names can be read, and `body` has
-// its bytes.
+// A filing, by what was read of its line. `readable` says whether the file that it names can be read, and `reading`
+// what it was read as.
 pub fn filed(
     head: Head,
     statuses: &mut [u8; 256],
@@ -81,7 +82,7 @@ pub fn filed(
     line: &[u8],
     read: Line,
     readable: bool,
-    body: &[u8],
+    reading: Reading,
 ) -> Turn
     ensures { λ r. ⌜
         tells
@@ -93,7 +94,7 @@ pub fn filed(
         (lent head (columns (now (statuses .entry)) (now (ids .entry)) (now (keys .entry)) (now (marks .entry))
         (now (rows .entry)))
         (loadColumns (now (numbers .entry)) (now (approved .entry)) (now (loads .entry))))
-        readable (now (body .entry)) (fileOf (firstText (now (line .entry)) read)
+        readable reading (fileOf (firstText (now (line .entry)) read)
         (secondText (now (line .entry)) read)) ⌝ }
 {
     if !readable {
@@ -103,8 +104,7 @@ pub fn filed(
         };
     }
     let submitter = first_text(line, read);
-    let name = second_text(line, read);
-    turned(head.file(
+    turned(head.file_reading(
         statuses,
         ids,
         keys,
@@ -114,7 +114,6 @@ pub fn filed(
         approved,
         loads,
         submitter,
-        name,
-        body,
+        reading,
     ))
 }

@@ -16,7 +16,7 @@ pub fn damaged(random: &mut Random, mut note: Note) -> (Vec<u8>, Vec<u8>) {
     }
     let (mut name, mut body) = note.file();
     for _ in 0..random.below(3).max(!zeros as usize) {
-        match random.below(16) {
+        match random.below(17) {
             0 => change(random, &mut name),
             1 => change(random, &mut body),
             // Nothing, too much, or another end.
@@ -88,6 +88,12 @@ pub fn damaged(random: &mut Random, mut note: Note) -> (Vec<u8>, Vec<u8>) {
                 }
             }
             14 => note.date = b"20210230".to_vec(),
+            // A long line.
+            15 => {
+                let at = random.below(body.len() + 1);
+                let more = vec![*random.pick(b"0;9 "); random.within(40, 200)];
+                body.splice(at..at, more);
+            }
             _ => {
                 let cut = random.below(body.len() + 1);
                 body.truncate(cut);

@@ -2,11 +2,12 @@
 //! history. Then the test of the test: each faulty copy of the peer must be told from the register by the same lists.
 //!
 //! `LISTS` and `SEED` set how many lists there are and which; the seed of a run is printed. Status 1 says that something differs, that
-//! a refusal, a change of a status, a form of a filing, a kind of history or a case of the last half hour was never met, or that a fault
-//! was not found; the last two are asked of long runs only.
+//! a refusal, a change of a status, a form of a filing, a kind of history, a case of the last half hour or a kind of cut was never met, or
+//! that a fault was not found; the last two are asked of long runs only.
 
 mod calls;
 mod compare;
+mod cuts;
 mod damage;
 mod files;
 mod layouts;
@@ -120,8 +121,13 @@ fn main() -> ExitCode {
             return failed(what);
         }
     }
+    for _ in 0..lists.div_ceil(200) {
+        if let Err(what) = cuts::every_way(&mut random, &mut tally) {
+            return failed(what);
+        }
+    }
     for _ in 0..20 * lists {
-        for compare in [files::reading, files::writing, objects::reading, objects::writing] {
+        for compare in [files::reading, cuts::reading, files::writing, objects::reading, objects::writing] {
             if let Err(what) = compare(&mut random, &mut tally) {
                 return failed(what);
             }

@@ -1,5 +1,5 @@
-//! How often each answer, each refusal, each change of a status, each form of an accepted filing, each kind of history and each case of
-//! a day's last half hour was met.
+//! How often each answer, each refusal, each change of a status, each form of an accepted filing, each kind of history, each case of a
+//! day's last half hour and each kind of cut through a body was met.
 
 use std::collections::{BTreeMap, BTreeSet};
 
@@ -120,6 +120,29 @@ const LATE: [(&str, fn(Late) -> bool); 9] = [
     ("P until 1 seen after midnight", |late| matches!(late, Late::Midnight)),
 ];
 
+/// What stands around a cut through a body: whether it is in line 1, how many bytes and semicolons of its line stand before it, how long
+/// the line is, and the place in the body.
+#[derive(Clone, Copy)]
+pub struct Cut {
+    pub first: bool,
+    pub before: usize,
+    pub semicolons: usize,
+    pub line: usize,
+    pub at: usize,
+}
+
+const CUTS: [(&str, fn(Cut) -> bool); 9] = [
+    ("in the header", |cut| cut.first && cut.before > 0),
+    ("in the first label", |cut| !cut.first && cut.before > 0 && cut.semicolons == 0),
+    ("in the second label", |cut| !cut.first && cut.semicolons == 1),
+    ("in the power", |cut| !cut.first && cut.semicolons == 2),
+    ("before LF", |cut| cut.before > 0 && cut.before == cut.line),
+    ("after LF", |cut| cut.before == 0 && cut.at > 0),
+    ("in a line over 64 bytes, up to the 64th", |cut| cut.line > 64 && (1..=64).contains(&cut.before)),
+    ("in a line over 64 bytes, after the 64th", |cut| cut.before > 64),
+    ("past 4,096 bytes", |cut| cut.at > 4096),
+];
+
 #[derive(Default)]
 pub struct Tally {
     /// By call and refusal, 0 for an accepted call.
@@ -132,6 +155,10 @@ pub struct Tally {
     histories: [u64; HISTORIES.len()],
     buffers: [u64; BUFFERS.len()],
     late: [u64; LATE.len()],
+    /// Bodies read in pieces, and those with an empty piece.
+    cut: u64,
+    empty: u64,
+    cuts: [u64; CUTS.len()],
 }
 
 impl Tally {
@@ -172,6 +199,13 @@ impl Tally {
 
     pub fn late(&mut self, late: Late) {
         self.late.iter_mut().zip(LATE).for_each(|(count, (_, is))| *count += is(late) as u64);
+    }
+
+    /// A body with these cuts, and perhaps an empty piece.
+    pub fn cuts(&mut self, cuts: impl Iterator<Item = Cut>, empty: bool) {
+        self.cut += 1;
+        self.empty += empty as u64;
+        cuts.for_each(|cut| self.cuts.iter_mut().zip(CUTS).for_each(|(count, (_, is))| *count += is(cut) as u64));
     }
 
     pub fn calls(&self) -> u64 {
@@ -246,6 +280,17 @@ impl Tally {
             }
         }
         println!();
+        print!("bodies in pieces: {}, with an empty piece {}; cuts", self.cut, self.empty);
+        for ((what, _), count) in CUTS.iter().zip(self.cuts) {
+            print!(" {what} {count};");
+            if count == 0 {
+                wrong.push(format!("no body was cut {what}"));
+            }
+        }
+        println!();
+        if self.empty == 0 {
+            wrong.push("no piece was empty".to_string());
+        }
         wrong
     }
 }

@@ -11,9 +11,22 @@ use register::ffi::{self, FileRead};
 
 use objects::{as_in_the_guide, peer_object, proved_object, without_blanks};
 
+/// The lengths of the pieces in which bodies are read; the peer reads whole ones.
+const PIECES: [usize; 6] = [4096, 512, 64, 16, 7, 1];
+
 #[inline(never)]
 fn proved_reader(name: &[u8], body: &[u8]) -> FileRead {
     ffi::read(name, body)
+}
+
+/// The body in pieces of a length.
+#[inline(never)]
+fn proved_pieces(name: &[u8], body: &[u8], length: usize) -> FileRead {
+    let mut reader = ffi::begin(name);
+    for piece in body.chunks(length) {
+        reader = ffi::feed(reader, piece);
+    }
+    ffi::notification_end(reader)
 }
 
 #[inline(never)]
@@ -132,6 +145,15 @@ fn main() {
         objects::compare(&laid_out[5]);
     }
     measure("file", count, &files, |(name, body)| proved_reader(name, body), |(name, body)| peer_reader(name, body));
+    for length in PIECES {
+        measure(
+            &format!("pieces_{length}"),
+            count,
+            &files,
+            |(name, body)| proved_pieces(name, body, length),
+            |(name, body)| peer_reader(name, body),
+        );
+    }
     for (name, texts) in [("object", &objects), ("object_laid_out", &laid_out)] {
         measure(name, count, texts, |body| proved_object(body), |body| peer_object(body));
     }

@@ -138,6 +138,25 @@ pub struct FileRead {
     pub category: [u8; 6],
 }
 
+/// A file being read, its body in pieces: of the name the day, its steps and the header's line; of the body how many bytes came, what its
+/// whole lines have shown, the powers, and at most 64 bytes of the line in hand. Placed at a multiple of 8 as the head is.
+#[repr(C, align(8))]
+#[derive(Clone, Copy)]
+pub struct FileReader {
+    pub day: u32,
+    pub steps: u32,
+    pub named: u32,
+    pub length: u32,
+    pub header: u32,
+    pub lines: u32,
+    pub fault: u32,
+    pub place: u32,
+    pub powers: [u16; 50],
+    pub held: u32,
+    pub line: [u8; 64],
+    pub text: [u8; 51],
+}
+
 /// Number and place of the refusal, 0 and 0 where there is none; then the lengths of name and body.
 #[repr(C)]
 pub struct FileWritten {
@@ -191,6 +210,15 @@ const _: () = {
     assert!(offset_of!(RecordShown, status) == 178);
     assert!(size_of::<FileRead>() == 156 && offset_of!(FileRead, powers) == 16 && offset_of!(FileRead, ceder) == 116);
     assert!(offset_of!(FileRead, acquirer) == 132 && offset_of!(FileRead, category) == 148);
+    // C's struct has 252 bytes; here four more follow, which nobody writes.
+    assert!(
+        size_of::<FileReader>() == 256 && offset_of!(FileReader, header) == 16 && offset_of!(FileReader, powers) == 32
+    );
+    assert!(
+        offset_of!(FileReader, held) == 132
+            && offset_of!(FileReader, line) == 136
+            && offset_of!(FileReader, text) == 200
+    );
     assert!(size_of::<FileWritten>() == 8 + 2 * size_of::<usize>() && offset_of!(FileWritten, name) == 8);
     assert!(size_of::<ObjectRead>() == 180 && offset_of!(ObjectRead, day) == 156);
     assert!(offset_of!(ObjectRead, second) == 160 && offset_of!(ObjectRead, origin) == 164);
@@ -233,6 +261,9 @@ unsafe extern "C" {
         head: Head, ids: &Ids, keys: &Keys, actor: *const u8, actor_len: usize, out: *mut u32, out_len: usize,
     ) -> Said;
     fn notification_read(name: *const u8, name_len: usize, body: *const u8, body_len: usize) -> FileRead;
+    fn notification_begin(name: *const u8, name_len: usize) -> FileReader;
+    fn notification_feed(reader: FileReader, piece: *const u8, piece_len: usize) -> FileReader;
+    pub safe fn notification_end(reader: FileReader) -> FileRead;
     fn notification_write(n: FileRead, name: *mut u8, name_len: usize, body: *mut u8, body_len: usize) -> FileWritten;
     fn register_object_read(body: *const u8, body_len: usize) -> ObjectRead;
     fn register_object_write(x: ObjectRead, buffer: *mut u8, buffer_len: usize) -> ObjectWritten;
@@ -363,6 +394,18 @@ pub fn history(r: &State, actor: &[u8], out: &mut [u32]) -> Said {
 pub fn read(name: &[u8], body: &[u8]) -> FileRead {
     // SAFETY: each pointer stands with the length of its own slice; the slices live past the call and are only read.
     unsafe { notification_read(name.as_ptr(), name.len(), body.as_ptr(), body.len()) }
+}
+
+#[inline]
+pub fn begin(name: &[u8]) -> FileReader {
+    // SAFETY: the pointer and the length are those of one slice, which lives past the call and is only read.
+    unsafe { notification_begin(name.as_ptr(), name.len()) }
+}
+
+#[inline]
+pub fn feed(reader: FileReader, piece: &[u8]) -> FileReader {
+    // SAFETY: the pointer and the length are those of one slice, which lives past the call and is only read.
+    unsafe { notification_feed(reader, piece.as_ptr(), piece.len()) }
 }
 
 #[inline]

@@ -50,11 +50,15 @@
 #![no_std]
 #![deny(missing_docs, unsafe_code)]
 
+#[cfg(feature = "std")]
+extern crate std;
+
 mod day;
 #[doc(hidden)] // for the benchmarks, which measure the library's own functions and structs
 pub mod ffi;
 mod notification;
 mod object;
+mod pieces;
 mod record;
 mod refusal;
 
@@ -63,6 +67,7 @@ use core::fmt;
 pub use day::{Day, NoDate};
 pub use notification::{Category, Code, Notification, BODY_LENGTH, NAME_LENGTH, STEPS};
 pub use object::{Moment, Object, OBJECT_LENGTH};
+pub use pieces::FileReader;
 pub use record::{Filed, Record, Status};
 pub use refusal::Refusal;
 

@@ -15,15 +15,15 @@ use Rattle.lines.proofs.answering.answer_lines.Statement.{statement}
 use Rattle.lines.proofs.answering.answer_lines.Tie as tie
 
 abbrev Inv-loop : tie.InvT-loop
-Inv-loop statuses₀ ids₀ keys₀ marks₀ rows₀ numbers₀ approved₀ loads₀ number input at output₀ out given readable body head₀ number₀ at₀ out₀ given₀ wants₀ statuses ids keys marks rows numbers approved loads output head number' at' out' given' wants =
+Inv-loop statuses₀ ids₀ keys₀ marks₀ rows₀ numbers₀ approved₀ loads₀ number input at output₀ out given readable reading head₀ number₀ at₀ out₀ given₀ wants₀ statuses ids keys marks rows numbers approved loads output head number' at' out' given' wants =
     (wants ≡ Input)
-    × Going input readable body given₀
+    × Going input readable reading given₀
     (stands (lent head₀ (columns statuses₀ ids₀ keys₀ marks₀ rows₀) (loadColumns numbers₀ approved₀ loads₀)) number₀ at₀ output₀ out₀ Input)
     given'
     (stands (lent head (columns statuses ids keys marks rows) (loadColumns numbers approved loads)) number' at' output out' Input)
 
 abbrev μ-loop : tie.MeasureT-loop
-μ-loop statuses₀ ids₀ keys₀ marks₀ rows₀ numbers₀ approved₀ loads₀ number input at output₀ out given readable body head₀ number₀ at₀ out₀ given₀ wants₀ statuses ids keys marks rows numbers approved loads output head number' at' out' given' wants =
+μ-loop statuses₀ ids₀ keys₀ marks₀ rows₀ numbers₀ approved₀ loads₀ number input at output₀ out given readable reading head₀ number₀ at₀ out₀ given₀ wants₀ statuses ids keys marks rows numbers approved loads output head number' at' out' given' wants =
     length input - at'
 
 -- back from a context to an earlier one
@@ -46,7 +46,7 @@ abbrev after-line-end : tie.After-read-line Inv-loop μ-loop → tie.After-line-
 after-line-end c = c .before .before .before .before .before .before .before
 
 abbrev start : tie.After-line-end Inv-loop μ-loop → tie.Start Inv-loop μ-loop
-start c = c .before .before .before .before .before .before
+start c = c .before .before .before .before .before
 
 loop-holds : tie.Need-loop-holds Inv-loop μ-loop
 loop-holds c = (refl, begins _ _ _ _ _ refl)
@@ -105,7 +105,7 @@ loop-again c =
     let r = after-read-line-from-engaged at-engaged in
     let a = start (after-line-end r) .args in
     let l = after-line-end r .before .before .loop in
-    let y = engagement-answers _ (a .readable) (a .body .now) (l .given) (r .read-line .ensures) (at-engaged .before .before .before .before .before .before .before .enum-told .given .1) (at-engaged .engaged .ensures _ _) in
+    let y = engagement-answers _ (a .readable) (a .reading) (l .given) (r .read-line .ensures) (at-engaged .before .before .before .before .before .before .before .enum-told .given .1) (at-engaged .engaged .ensures _ _) in
     (l .inv .0, goes-on (l .inv .1) (after-line-end r .line-end .ensures) (r .before .before .before .before .before .before .if1 .left) (r .before .before .before .before .has-room .ensures) (not-false _ (r .before .before .before .if2 .left)) (y .told) (y .unnamed) (r .before .wrapping-add-u64 .ensures) (c .before .before .write-answer .ensures) (c .before .output .given))
 
 names-file-requires : tie.Need-names-file-requires Inv-loop μ-loop
@@ -177,7 +177,7 @@ loop-again-3 c =
     let r = after-read-line-from-only-asks (after-only-asks-from-ask at-ask) in
     let a = start (after-line-end r) .args in
     let l = after-line-end r .before .before .loop in
-    let y = ask-answers _ (a .readable) (a .body .now) (l .given) (r .read-line .ensures) (after-only-asks-from-ask at-ask .only-asks .ensures) (at-ask .before .before .before .before .before .before .before .before .if5 .taken) (at-ask .ask .ensures _) in
+    let y = ask-answers _ (a .readable) (a .reading) (l .given) (r .read-line .ensures) (after-only-asks-from-ask at-ask .only-asks .ensures) (at-ask .before .before .before .before .before .before .before .before .if5 .taken) (at-ask .ask .ensures _) in
     (l .inv .0, goes-on (l .inv .1) (after-line-end r .line-end .ensures) (r .before .before .before .before .before .before .if1 .left) (r .before .before .before .before .has-room .ensures) (not-false _ (r .before .before .before .if2 .left)) (y .told) (y .unnamed) (r .before .wrapping-add-u64 .ensures) (c .before .before .write-answer3 .ensures) (c .before .output3 .given))
 
 answer-requires : tie.Need-answer-requires Inv-loop μ-loop

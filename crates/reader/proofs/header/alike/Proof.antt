@@ -5,7 +5,7 @@ use Prim.Native.Nat.{_-_, _≤_}
 use native.Mathlib.Omega.{arith}
 use lib.ListN.{length, take}
 use Rattle.lists.specs.Searches.{same}
-use Rattle.reader.proofs.Headers.{same-length, alike-more, alike-all}
+use Rattle.reader.proofs.SameTexts.{same-length, alike-more, alike-all}
 use Rattle.reader.proofs.header.alike.Statement.{statement}
 use Rattle.reader.proofs.header.alike.Tie as tie
 

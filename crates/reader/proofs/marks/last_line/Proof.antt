@@ -1,18 +1,11 @@
--- The times, the power and LF, one after another.
+-- The times, then the power, `;` and LF; past the end stands no byte.
 use borrow.Author.Needs.{needs}
-use mathlib.Core.Path.{sym, _∙_}
 use Prim.Native.Nat.{_+_}
-use native.Mathlib.Omega.{arith}
 use borrow.Author.Tests.{not-false}
 use Rattle.reader.specs.Walking.{sixAt}
-use Rattle.reader.proofs.Figures.{power-few}
-use Rattle.reader.proofs.Marking.{line-at}
+use Rattle.reader.proofs.Marking.{line-says}
 use Rattle.reader.proofs.marks.last_line.Statement.{statement}
 use Rattle.reader.proofs.marks.last_line.Tie as tie
-
--- back from a context to an earlier one
-abbrev start : tie.After-power-at → tie.Start
-start c = c .before .before .before .before .before .before
 
 sub-if1 : tie.Need-sub-if1
 sub-if1 c = search needs
@@ -26,43 +19,53 @@ twelve-requires c κs = search needs
 returns-2 : tie.Need-returns-2
 returns-2 c = search needs
 
-add-power-at : tie.Need-add-power-at
-add-power-at c = search needs
+add-p : tie.Need-add-p
+add-p c = search needs
 
-power-at-requires : tie.Need-power-at-requires
-power-at-requires c κs = search needs
+shared-slice-read-tail-of : tie.Need-shared-slice-read-tail-of
+shared-slice-read-tail-of c = search needs
 
-enum-known-power : tie.Need-enum-known-power
-enum-known-power c = search needs
+add-tail-of : tie.Need-add-tail-of
+add-tail-of c = search needs
+
+shared-slice-read-tail-of-2 : tie.Need-shared-slice-read-tail-of-2
+shared-slice-read-tail-of-2 c = search needs
+
+add-tail-of-2 : tie.Need-add-tail-of-2
+add-tail-of-2 c = search needs
+
+shared-slice-read-tail-of-3 : tie.Need-shared-slice-read-tail-of-3
+shared-slice-read-tail-of-3 c = search needs
 
 add-byte-at : tie.Need-add-byte-at
 add-byte-at c = search needs
 
-add-byte-at-2 : tie.Need-add-byte-at-2
-add-byte-at-2 c = omega (arith, power-few _ _ _ _ _ _ _ (sym (c .before .before .before .power-at .ensures) ∙ c .before .power .given .1))
-
 byte-at-requires : tie.Need-byte-at-requires
 byte-at-requires c κs = search needs
 
-add-t18 : tie.Need-add-t18
-add-t18 c = omega (arith, power-few _ _ _ _ _ _ _ (sym (c .before .before .before .before .before .power-at .ensures) ∙ c .before .before .before .power .given .1))
+add-byte-at-2 : tie.Need-add-byte-at-2
+add-byte-at-2 c = search needs
 
-enum-told : tie.Need-enum-told
-enum-told c = search needs
+byte-at-requires-2 : tie.Need-byte-at-requires-2
+byte-at-requires-2 c κs = search needs
+
+add-byte-at-3 : tie.Need-add-byte-at-3
+add-byte-at-3 c = search needs
+
+byte-at-requires-3 : tie.Need-byte-at-requires-3
+byte-at-requires-3 c κs = search needs
+
+tail-of-requires : tie.Need-tail-of-requires
+tail-of-requires c κs = search needs
 
 returns-3 : tie.Need-returns-3
 returns-3 c =
-    let at-power-at = c .before .before .before .before .before in
-    let at-twelve = c .before .before .before .before .before .before .before in
-    line-at (start at-power-at .args .s .now) (start at-power-at .args .a) (sixAt (start at-power-at .args .t .now) (start at-power-at .args .i)) (sixAt (start at-power-at .args .t .now) (start at-power-at .args .i + 6)) _ _ _ (at-twelve .twelve .ensures .1)
-    (at-twelve .twelve .ensures .0 (not-false (at-twelve .twelve .result) (c .before .before .before .before .before .before .if2 .left)))
-    (sym (c .before .before .before .power .given .1) ∙ at-power-at .power-at .ensures) (c .before .byte-at .ensures) (c .if3 .taken)
-
-returns-4 : tie.Need-returns-4
-returns-4 c = search needs
-
-returns-5 : tie.Need-returns-5
-returns-5 c = search needs
+    let fourth = c .before .before .before in
+    let times = fourth .before .before .before .before .before in
+    let x = times .before .before .before .before .args in
+    line-says (x .s .now) (x .a) (sixAt (x .t .now) (x .i)) (sixAt (x .t .now) (x .i + 6)) _ _ _ (c .tail-of .result) (times .twelve .ensures .1)
+    (times .twelve .ensures .0 (not-false (times .twelve .result) (fourth .before .before .before .before .if2 .left)))
+    (fourth .byte-at .ensures) (c .before .before .byte-at2 .ensures) (c .before .byte-at3 .ensures) (c .tail-of .ensures)
 
 pub last-line-spec : {M : Type 1} → statement M
 last-line-spec =
@@ -72,14 +75,17 @@ last-line-spec =
     returns
     twelve-requires
     returns-2
-    add-power-at
-    power-at-requires
-    enum-known-power
+    add-p
+    shared-slice-read-tail-of
+    add-tail-of
+    shared-slice-read-tail-of-2
+    add-tail-of-2
+    shared-slice-read-tail-of-3
     add-byte-at
-    add-byte-at-2
     byte-at-requires
-    add-t18
-    enum-told
-    returns-3
-    returns-4
-    returns-5)
+    add-byte-at-2
+    byte-at-requires-2
+    add-byte-at-3
+    byte-at-requires-3
+    tail-of-requires
+    returns-3)

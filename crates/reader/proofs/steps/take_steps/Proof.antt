@@ -13,7 +13,9 @@ use Rattle.reader.proofs.steps.take_steps.Tie as tie
 
 abbrev Inv-loop : tie.InvT-loop
 Inv-loop steps body from powers₀ tally₀ at₀ powers tally at =
-    (at ≤ length body) × (takeSteps steps (record { tally = tally₀; powers = powers₀ }) (linesIn (drop from body)) ≡ takeSteps steps (record { tally = tally; powers = powers }) (linesIn (drop at body)))
+    (at ≤ length body)
+    × (takeSteps steps (record { tally = tally₀; powers = powers₀ }) (linesIn (drop from body))
+    ≡ takeSteps steps (record { tally = tally; powers = powers }) (linesIn (drop at body)))
     × (from + wholeTo (drop from body) ≡ at + wholeTo (drop at body))
 
 abbrev μ-loop : tie.MeasureT-loop
@@ -79,7 +81,8 @@ loop-again c =
     let a = l .before .before .args in
     let n = e in (
       omega (arith, h),
-      l .loop .inv .1 ∙ (g .ensures .kept ∙ take-first (a .steps) (a .body .now) (g .result .at) (n .byte-from .result) (ended n) _ _ h (c .take-step .ensures)),
+      l .loop .inv .1
+          ∙ (g .ensures .kept ∙ take-first (a .steps) (a .body .now) (g .result .at) (n .byte-from .result) (ended n) _ _ h (c .take-step .ensures)),
       l .loop .inv .2 ∙ (g .ensures .rest ∙ whole-here (a .body .now) (g .result .at) (n .byte-from .result) (ended n) h),
     )
 

@@ -16,14 +16,14 @@ mul-powers c = search needs
 element-write-powers : tie.Need-element-write-powers
 element-write-powers c = search needs
 
-credit-requires : tie.Need-credit-requires
-credit-requires c κs = search needs
+count-requires : tie.Need-count-requires
+count-requires c κs = search needs
 
 enum-told : tie.Need-enum-told
 enum-told c = search needs
 
-add-t13 : tie.Need-add-t13
-add-t13 c = search needs
+add-fault : tie.Need-add-fault
+add-fault c = search needs
 
 fault-requires : tie.Need-fault-requires
 fault-requires c κs = search needs
@@ -31,20 +31,26 @@ fault-requires c κs = search needs
 enum-told-2 : tie.Need-enum-told-2
 enum-told-2 c = search needs
 
-add-t16 : tie.Need-add-t16
-add-t16 c = search needs
+add-fault-2 : tie.Need-add-fault-2
+add-fault-2 c = search needs
 
 fault-requires-2 : tie.Need-fault-requires-2
 fault-requires-2 c κs = search needs
 
 returns : tie.Need-returns
-returns c = let a = c .before .before .before .before .args in noted-power (a .first) (a .t) _ (a .powers .now) (a .said) _ (c .before .before .said .given .1) (c .credit .ensures)
+returns c =
+    let a = c .before .before .before .before .args in
+    noted-power (a .first) (a .t) _ (a .powers .now) (a .said) _ (c .before .before .said .given .1) (c .count .ensures)
 
 returns-2 : tie.Need-returns-2
-returns-2 c = let a = c .before .before .before .args in noted-no-labels (a .first) (a .t) _ (a .powers .now) (a .said) (c .before .enum-told .given .1) (c .fault .ensures)
+returns-2 c =
+    let a = c .before .before .before .args in
+    noted-no-labels (a .first) (a .t) _ (a .powers .now) (a .said) (c .before .enum-told .given .1) (c .fault .ensures)
 
 returns-3 : tie.Need-returns-3
-returns-3 c = let a = c .before .before .before .args in noted-no-power (a .first) (a .t) _ (a .powers .now) (a .said) (c .before .enum-told2 .given .1) (c .fault2 .ensures)
+returns-3 c =
+    let a = c .before .before .before .args in
+    noted-no-power (a .first) (a .t) _ (a .powers .now) (a .said) (c .before .enum-told2 .given .1) (c .fault2 .ensures)
 
 pub note-spec : {M : Type 1} → statement M
 note-spec =
@@ -54,12 +60,12 @@ note-spec =
     cast-powers
     mul-powers
     element-write-powers
-    credit-requires
+    count-requires
     enum-told
-    add-t13
+    add-fault
     fault-requires
     enum-told-2
-    add-t16
+    add-fault-2
     fault-requires-2
     returns
     returns-2

@@ -1,12 +1,10 @@
--- `Head::file_object` meets its contract: an object is read, and then its notification is filed.
-use mathlib.Core.Path.{ap, _∙_}
+-- `Head::file_object` meets its contract: an object is read, and filed as it was read.
+use mathlib.Core.Path.{_∙_}
 use Rattle.tables.specs.Tables.{columns, loadColumns}
 use Rattle.register.specs.View.{Register, lent}
-use Rattle.register.specs.Written.{seen}
-use Rattle.register.specs.declared.Reply.{Reply}
 use Rattle.ledger.specs.Call.{json}
 use Rattle.ledger.specs.declared.Entry.the-variants.{SevenDays}
-use Rattle.register.proofs.Notes.{form-unread, form-read}
+use Rattle.register.proofs.Notes.{reading-does}
 use borrow.Author.Needs.{needs}
 use Rattle.register.proofs.Head.file_object.Statement.{statement}
 use Rattle.register.proofs.Head.file_object.Tie as tie
@@ -25,45 +23,16 @@ register b =
 read-from-requires : tie.Need-read-from-requires
 read-from-requires c κs = search needs
 
-enum-known-verdict : tie.Need-enum-known-verdict
-enum-known-verdict c = search needs
-
-refused-requires : tie.Need-refused-requires
-refused-requires c κs = search needs
+file-reading-requires : tie.Need-file-reading-requires
+file-reading-requires c κs = search needs
 
 returns : tie.Need-returns
 returns c =
-    let at-read-from = c .before .before .before .before in
-    let b = start at-read-from in
+    let read = c .before .before .before .before .before .before in
+    let b = start read in
     let a = b .args in
-    let r = register b in
-    ap (λ (y : Reply). seen (lent (y .head) (r .columns) (r .loads)) (y .answer)) (c .refused .ensures)
-    ∙ form-unread r SevenDays (a .submitter .now) (json (a .body .now)) _
-    (at-read-from .read-from .ensures) _ (c .before .before .verdict .given .1)
-
-enum-told : tie.Need-enum-told
-enum-told c = search needs
-
-file-note-requires : tie.Need-file-note-requires
-file-note-requires c κs = search needs
-
-returns-2 : tie.Need-returns-2
-returns-2 c =
-    let at-read-from = c .before .before .before .before .before .before .before .before in
-    let b = start at-read-from in
-    let a = b .args in
-    let r = register b in
-    form-read r SevenDays (a .submitter .now) (json (a .body .now)) _
-    (at-read-from .read-from .ensures) (c .before .before .before .before .before .before .enum-told .given .1) _ (c .file-note .ensures)
+    c .file-reading .ensures
+    ∙ reading-does (register b) SevenDays (a .submitter .now) (json (a .body .now)) _ (read .read-from .ensures)
 
 pub file-object-spec : {M : Type 1} → statement M
-file-object-spec =
-    tie.close
-    (tie.spec
-    read-from-requires
-    enum-known-verdict
-    refused-requires
-    returns
-    enum-told
-    file-note-requires
-    returns-2)
+file-object-spec = tie.close (tie.spec read-from-requires file-reading-requires returns)

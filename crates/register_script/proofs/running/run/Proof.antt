@@ -22,11 +22,11 @@ in-part : (to e : ℕ) (xs : List ℕ) → to ≤ length (take e xs) → e ≤ l
 in-part to e xs h k = omega (arith, length-take-le e xs k)
 
 abbrev Inv-loop : tie.InvT-loop
-Inv-loop statuses₀ ids₀ keys₀ marks₀ rows₀ numbers₀ approved₀ loads₀ body₀ input₀ output₀ head₀ number₀ at₀ end₀ last₀ out₀ given₀ file₀ turns₀ statuses ids keys marks rows numbers approved loads body input output head number at end last out given file turns =
-    (length body ≡ length body₀) × (length input ≡ length input₀) × (length output ≡ length output₀) × (end ≤ length input) × (out ≤ length output) × (file .length ≤ length body)
+Inv-loop statuses₀ ids₀ keys₀ marks₀ rows₀ numbers₀ approved₀ loads₀ part₀ input₀ output₀ head₀ number₀ at₀ end₀ last₀ out₀ given₀ file₀ turns₀ statuses ids keys marks rows numbers approved loads part input output head number at end last out given file turns =
+    (length part ≡ length part₀) × (length input ≡ length input₀) × (length output ≡ length output₀) × (end ≤ length input) × (out ≤ length output)
 
 abbrev μ-loop : tie.MeasureT-loop
-μ-loop statuses₀ ids₀ keys₀ marks₀ rows₀ numbers₀ approved₀ loads₀ body₀ input₀ output₀ head₀ number₀ at₀ end₀ last₀ out₀ given₀ file₀ turns₀ statuses ids keys marks rows numbers approved loads body input output head number at end last out given file turns =
+μ-loop statuses₀ ids₀ keys₀ marks₀ rows₀ numbers₀ approved₀ loads₀ part₀ input₀ output₀ head₀ number₀ at₀ end₀ last₀ out₀ given₀ file₀ turns₀ statuses ids keys marks rows numbers approved loads part input output head number at end last out given file turns =
     turns
 
 -- back from a context to an earlier one
@@ -40,10 +40,13 @@ abbrev after-answer-lines : tie.After-output Inv-loop μ-loop → tie.After-answ
 after-answer-lines c = c .before
 
 abbrev after-answer-lines-arg9 : tie.After-answer-lines Inv-loop μ-loop → tie.After-answer-lines-arg9 Inv-loop μ-loop
-after-answer-lines-arg9 c = c .before .before .before
+after-answer-lines-arg9 c = c .before .before
+
+abbrev after-reading : tie.After-answer-lines-arg9 Inv-loop μ-loop → tie.After-reading Inv-loop μ-loop
+after-reading c = c .before .before .before .before .before .before .before .before .before
 
 abbrev in-loop : tie.After-answer-lines-arg9 Inv-loop μ-loop → tie.In-loop Inv-loop μ-loop
-in-loop c = c .before .before .before .before .before .before .before .before .before
+in-loop c = after-reading c .before
 
 abbrev at-loop : tie.In-loop Inv-loop μ-loop → tie.At-loop Inv-loop μ-loop
 at-loop c = c .before
@@ -62,12 +65,6 @@ slice-reshare-prefix-answer-lines c = search needs
 
 slice-aggregate-answer-lines : tie.Need-slice-aggregate-answer-lines Inv-loop μ-loop
 slice-aggregate-answer-lines c = sym (length-take-le _ _ (at-loop (in-loop c) .loop .inv .3))
-
-slice-reshare-prefix-answer-lines-2 : tie.Need-slice-reshare-prefix-answer-lines-2 Inv-loop μ-loop
-slice-reshare-prefix-answer-lines-2 c = search needs
-
-slice-aggregate-answer-lines-2 : tie.Need-slice-aggregate-answer-lines-2 Inv-loop μ-loop
-slice-aggregate-answer-lines-2 c = sym (length-take-le _ _ (at-loop (in-loop (c .before .before)) .loop .inv .5))
 
 answer-lines-requires : tie.Need-answer-lines-requires Inv-loop μ-loop
 answer-lines-requires c κs = search needs
@@ -94,7 +91,7 @@ loop-less : tie.Need-loop-less Inv-loop μ-loop
 loop-less c = omega (arith, in-loop (after-answer-lines-arg9 (after-answer-lines (after-output-from-read-named (c .before .before)))) .loop-test .taken)
 
 loop-again : tie.Need-loop-again Inv-loop μ-loop
-loop-again c = (c .before .body .given ∙ at-loop (in-loop (after-answer-lines-arg9 (after-answer-lines (after-output-from-read-named (c .before .before))))) .loop .inv .0, at-loop (in-loop (after-answer-lines-arg9 (after-answer-lines (after-output-from-read-named (c .before .before))))) .loop .inv .1, after-output-from-read-named (c .before .before) .output .given ∙ at-loop (in-loop (after-answer-lines-arg9 (after-answer-lines (after-output-from-read-named (c .before .before))))) .loop .inv .2, at-loop (in-loop (after-answer-lines-arg9 (after-answer-lines (after-output-from-read-named (c .before .before))))) .loop .inv .3, omega (arith, after-answer-lines (after-output-from-read-named (c .before .before)) .answer-lines .ensures .1 .room (at-loop (in-loop (after-answer-lines-arg9 (after-answer-lines (after-output-from-read-named (c .before .before))))) .loop .inv .4), after-output-from-read-named (c .before .before) .output .given), c .before .before .read-named .ensures)
+loop-again c = (c .before .part .given ∙ at-loop (in-loop (after-answer-lines-arg9 (after-answer-lines (after-output-from-read-named (c .before .before))))) .loop .inv .0, at-loop (in-loop (after-answer-lines-arg9 (after-answer-lines (after-output-from-read-named (c .before .before))))) .loop .inv .1, after-output-from-read-named (c .before .before) .output .given ∙ at-loop (in-loop (after-answer-lines-arg9 (after-answer-lines (after-output-from-read-named (c .before .before))))) .loop .inv .2, at-loop (in-loop (after-answer-lines-arg9 (after-answer-lines (after-output-from-read-named (c .before .before))))) .loop .inv .3, omega (arith, after-answer-lines (after-output-from-read-named (c .before .before)) .answer-lines .ensures .1 .room (at-loop (in-loop (after-answer-lines-arg9 (after-answer-lines (after-output-from-read-named (c .before .before))))) .loop .inv .4), after-output-from-read-named (c .before .before) .output .given))
 
 flush-requires : tie.Need-flush-requires Inv-loop μ-loop
 flush-requires c κs =
@@ -122,7 +119,7 @@ loop-less-2 c = omega (arith, in-loop (after-answer-lines-arg9 (after-answer-lin
 loop-again-2 : tie.Need-loop-again-2 Inv-loop μ-loop
 loop-again-2 c =
     let at-flush = c .before .before .before in
-    (at-loop (in-loop (after-answer-lines-arg9 (after-answer-lines (after-output-from-flush at-flush)))) .loop .inv .0, at-loop (in-loop (after-answer-lines-arg9 (after-answer-lines (after-output-from-flush at-flush)))) .loop .inv .1, after-output-from-flush at-flush .output .given ∙ at-loop (in-loop (after-answer-lines-arg9 (after-answer-lines (after-output-from-flush at-flush)))) .loop .inv .2, at-loop (in-loop (after-answer-lines-arg9 (after-answer-lines (after-output-from-flush at-flush)))) .loop .inv .3, omega arith, at-loop (in-loop (after-answer-lines-arg9 (after-answer-lines (after-output-from-flush at-flush)))) .loop .inv .5)
+    (at-loop (in-loop (after-answer-lines-arg9 (after-answer-lines (after-output-from-flush at-flush)))) .loop .inv .0, at-loop (in-loop (after-answer-lines-arg9 (after-answer-lines (after-output-from-flush at-flush)))) .loop .inv .1, after-output-from-flush at-flush .output .given ∙ at-loop (in-loop (after-answer-lines-arg9 (after-answer-lines (after-output-from-flush at-flush)))) .loop .inv .2, at-loop (in-loop (after-answer-lines-arg9 (after-answer-lines (after-output-from-flush at-flush)))) .loop .inv .3, omega arith)
 
 same-length-4 : tie.Need-same-length-4 Inv-loop μ-loop
 same-length-4 c = at-loop (in-loop (after-answer-lines-arg9 (after-answer-lines (after-output-from-flush (c .before .before .before))))) .loop .inv .0
@@ -161,7 +158,7 @@ loop-less-3 c = omega (arith, in-loop (after-answer-lines-arg9 (after-answer-lin
 loop-again-3 : tie.Need-loop-again-3 Inv-loop μ-loop
 loop-again-3 c =
     let at-flush = c .before .before .before .before .before .before .before .before in
-    (at-loop (in-loop (after-answer-lines-arg9 (after-answer-lines (after-output-from-flush at-flush)))) .loop .inv .0, c .before .before .input2 .given ∙ at-loop (in-loop (after-answer-lines-arg9 (after-answer-lines (after-output-from-flush at-flush)))) .loop .inv .1, after-output-from-flush at-flush .output .given ∙ at-loop (in-loop (after-answer-lines-arg9 (after-answer-lines (after-output-from-flush at-flush)))) .loop .inv .2, omega (arith, c .before .before .before .next-block .ensures, c .before .before .input2 .given), omega arith, at-loop (in-loop (after-answer-lines-arg9 (after-answer-lines (after-output-from-flush at-flush)))) .loop .inv .5)
+    (at-loop (in-loop (after-answer-lines-arg9 (after-answer-lines (after-output-from-flush at-flush)))) .loop .inv .0, c .before .before .input2 .given ∙ at-loop (in-loop (after-answer-lines-arg9 (after-answer-lines (after-output-from-flush at-flush)))) .loop .inv .1, after-output-from-flush at-flush .output .given ∙ at-loop (in-loop (after-answer-lines-arg9 (after-answer-lines (after-output-from-flush at-flush)))) .loop .inv .2, omega (arith, c .before .before .before .next-block .ensures, c .before .before .input2 .given), omega arith)
 
 same-length-10 : tie.Need-same-length-10 Inv-loop μ-loop
 same-length-10 c = search needs
@@ -186,8 +183,6 @@ run-spec =
     sub-turns
     slice-reshare-prefix-answer-lines
     slice-aggregate-answer-lines
-    slice-reshare-prefix-answer-lines-2
-    slice-aggregate-answer-lines-2
     answer-lines-requires
     enum-known-wants
     sub-read-named

@@ -56,9 +56,9 @@ enum-known-front c = search needs
 element-write-powers : tie.Need-element-write-powers
 element-write-powers c = search needs
 
-add-t27 : tie.Need-add-t27
-add-t27 c =
-    let w = rw (c .before .before .front .given .1) at (c .before .before .before .before .plain-front .ensures) in
+add-t24 : tie.Need-add-t24
+add-t24 c =
+    let w = rw (c .before .front .given .1) at (c .before .before .before .plain-front .ensures) in
     omega (arith, w .1 .within)
 
 no-layout-requires-2 : tie.Need-no-layout-requires-2
@@ -69,12 +69,12 @@ enum-told c = search needs
 
 returns-5 : tie.Need-returns-5
 returns-5 c =
-    let f = c .before .before .before .before .before in
+    let f = c .before .before .before .before in
     let room = asked f in
     let l = begun room in
     let x = start l in
     let a = x .args in
-    let w = rw (c .before .before .before .front .given .1, x .pre .2) at (f .plain-front .ensures) in
+    let w = rw (c .before .before .front .given .1, x .pre .2) at (f .plain-front .ensures) in
     let m = may-run (a .steps) (a .t) _ (l .before .is-over .ensures) (l .if1 .left) in
     let zero = room .before .before .if2 .left in
     let told = first-next (a .steps) (a .s .now) (a .at) _ _ (a .t) (a .powers .now) (omega (arith, room .before .if3 .left)) zero (m .1) (m .2)
@@ -100,7 +100,7 @@ first-step-spec =
     plain-front-requires
     enum-known-front
     element-write-powers
-    add-t27
+    add-t24
     no-layout-requires-2
     enum-told
     returns-5

@@ -1,25 +1,32 @@
 -- `runs::laid_run` meets its contract: as long as the loop runs, what is kept now and the tokens from here on say what they said at first.
 use borrow.Author.Needs.{needs}
-use Prim.Native.Nat.{_-_}
+use Prim.Native.Nat.{ℕ, _-_, _<_, _≤_}
 use native.Mathlib.Omega.{arith}
+use lib.Dec.{ltb}
+use borrow.Author.Tests.{ltb-true, ltb-false}
+use Rattle.lists.proofs.Tests.{by-test}
 use Rattle.request_reader.proofs.StepRuns.{onward-refl}
-use Rattle.request_reader.proofs.RunLoops.{keptAt, kept-here, RunInv, front-small, run-start, run-entries, run-more}
+use Rattle.request_reader.proofs.RunLoops.{RunInv, run-start, run-entries, run-more}
 use Rattle.request_reader.proofs.RunStarts.{may-run}
 use Rattle.request_reader.proofs.runs.laid_run.Statement.{statement}
 use Rattle.request_reader.proofs.runs.laid_run.Tie as tie
 
+-- the step that is reached is one of the day
+within-day : (first k : ℕ) → first ≤ k → (first < k → k ≤ 50) → first ≤ 50 → k ≤ 50
+within-day first k o f h = by-test (ltb first k) (λ t. f (ltb-true first k t)) (λ t. omega (arith, o, h, ltb-false first k t))
+
 abbrev Inv-loop : tie.InvT-loop
-Inv-loop s lead l from steps labels powers₀ k₀ stop i₀ sum₀ at₀ powers k i sum at =
-    RunInv steps k₀ stop s from (keptAt k₀ sum₀ powers₀) k i sum at powers
+Inv-loop s lead l from t steps labels powers₀ stop i₀ k₀ at₀ powers i k at =
+    RunInv steps (t .lines) stop s from (record { tally = t; powers = powers₀ }) k i at powers
 
 abbrev μ-loop : tie.MeasureT-loop
-μ-loop s lead l from steps labels powers₀ k₀ stop i₀ sum₀ at₀ powers k i sum at = stop - k
+μ-loop s lead l from t steps labels powers₀ stop i₀ k₀ at₀ powers i k at = stop - k
 
 is-over-requires : tie.Need-is-over-requires Inv-loop μ-loop
 is-over-requires c κs = search needs
 
 returns : tie.Need-returns Inv-loop μ-loop
-returns c = let a = c .before .before .before .before .args in (onward-refl (a .steps) (a .s .now) (a .from) _, c .before .before .before .before .pre .0)
+returns c = let x = c .before .before .before .before in (onward-refl (x .args .steps) (x .args .s .now) (x .args .from) _, x .pre .0)
 
 run-end-requires : tie.Need-run-end-requires Inv-loop μ-loop
 run-end-requires c κs =
@@ -33,22 +40,26 @@ half-hours-requires c κs =
     let m = may-run (x .args .steps) (x .args .t) _ (c .before .before .is-over .ensures) (c .before .if1 .left) in
     (omega (arith, m .0), x .pre .1)
 
+cast-stop : tie.Need-cast-stop Inv-loop μ-loop
+cast-stop c = search needs
+
 cast-i : tie.Need-cast-i Inv-loop μ-loop
 cast-i c = search needs
 
 mul-i : tie.Need-mul-i Inv-loop μ-loop
 mul-i c = search needs
 
-one-if-requires : tie.Need-one-if-requires Inv-loop μ-loop
-one-if-requires c κs = search needs
+cast-k : tie.Need-cast-k Inv-loop μ-loop
+cast-k c = search needs
 
 loop-holds : tie.Need-loop-holds Inv-loop μ-loop
 loop-holds c =
-    let o = c .before .before .before in
-    let x = o .before .before .before .before in
+    let l = c .before .before .before in
+    let x = l .before .before .before .before in
     let a = x .args in
+    let m = may-run (a .steps) (a .t) _ (l .before .is-over .ensures) (l .if1 .left) in
     let e = c .before .half-hours .ensures .0 in
-    run-start (a .steps) (a .t .lines) _ (a .s .now) (a .from) _ _ _ (omega arith) (c .one-if .ensures .1) (x .pre .0)
+    run-start (a .steps) _ (a .s .now) (a .from) _ (a .t) (a .powers .now) (m .1) (omega arith) (x .pre .0)
 
 laid-front-requires : tie.Need-laid-front-requires Inv-loop μ-loop
 laid-front-requires c κs =
@@ -58,14 +69,11 @@ laid-front-requires c κs =
     let a = x .args in
     let h = c .loop-test .taken in
     let p = d .run-end .ensures (omega (arith, l .inv .on)) in
-    let e = run-entries (a .steps) (a .t .lines) (d .run-end .result) (a .s .now) (a .from) _ p _ _ _ _ _ (l .inv) h in
+    let e = run-entries (a .steps) (a .t .lines) (d .run-end .result) (a .s .now) (a .from) _ p _ _ _ _ (l .inv) h in
     (l .inv .within, x .pre .3, x .pre .4, rw (x .pre .2) (e .0), rw (x .pre .2) (e .1))
 
 enum-known-front : tie.Need-enum-known-front Inv-loop μ-loop
 enum-known-front c = search needs
-
-cast-powers : tie.Need-cast-powers Inv-loop μ-loop
-cast-powers c = search needs
 
 mul-powers : tie.Need-mul-powers Inv-loop μ-loop
 mul-powers c = search needs
@@ -78,19 +86,6 @@ element-write-powers c =
     let h = c .before .before .before .before .loop-test .taken in
     let p = d .run-end .ensures (omega (arith, l .loop .inv .on)) in
     omega (arith, x .pre .1, p .within)
-
-cast-sum : tie.Need-cast-sum Inv-loop μ-loop
-cast-sum c = search needs
-
-add-sum : tie.Need-add-sum Inv-loop μ-loop
-add-sum c =
-    let l = c .before .before .before .before .before in
-    let d = l .before .before .before in
-    let x = d .before .before .before .before .before in
-    let h = c .before .before .before .before .loop-test .taken in
-    let p = d .run-end .ensures (omega (arith, l .loop .inv .on)) in
-    let w = rw (c .before .front .given .1) at (c .before .before .before .laid-front .ensures) in
-    omega (arith, x .pre .1, p .within, l .loop .inv .small, front-small _ _ _ _ _ _ _ w)
 
 add-at : tie.Need-add-at Inv-loop μ-loop
 add-at c =
@@ -117,18 +112,23 @@ loop-again c =
     let h = c .before .before .before .before .loop-test .taken in
     let p = d .run-end .ensures (omega (arith, l .loop .inv .on)) in
     let w = rw (c .before .front .given .1, x .pre .2) at (c .before .before .before .laid-front .ensures) in
-    run-more (a .steps) (a .t .lines) (d .run-end .result) (a .s .now) (a .from) _ p _ _ _ _ _ (l .loop .inv) h (m .2) (x .pre .1) _ _ w
+    run-more (a .steps) (a .t .lines) (d .run-end .result) (a .s .now) (a .from) _ p _ _ _ _ (l .loop .inv) h (m .2) (x .pre .1) _ _ w
 
 enum-told : tie.Need-enum-told Inv-loop μ-loop
 enum-told c = search needs
 
-returns-2 : tie.Need-returns-2 Inv-loop μ-loop
-returns-2 c =
+cast-t20 : tie.Need-cast-t20 Inv-loop μ-loop
+cast-t20 c =
     let i = c .before .loop .inv in
-    let o = c .before .before .before .before .before in
-    let a = o .before .before .before .before .args in
-    let m = may-run (a .steps) (a .t) _ (o .before .is-over .ensures) (o .if1 .left) in
-    (rw (kept-here (a .t) _ _ (m .1) (c .before .before .one-if .ensures .0)) at (i .onward), i .within)
+    let d = c .before .before .before .before in
+    let o = d .before in
+    let x = o .before .before .before .before in
+    let m = may-run (x .args .steps) (x .args .t) _ (o .before .is-over .ensures) (o .if1 .left) in
+    let e = within-day (x .args .t .lines) _ (i .on) (λ h. omega (arith, i .upto h, x .pre .1, d .run-end .ensures (omega (arith, h, i .upto h)) .within)) (omega (arith, m .0, x .pre .1)) in
+    omega (arith, e)
+
+returns-2 : tie.Need-returns-2 Inv-loop μ-loop
+returns-2 c = let i = c .before .loop .inv in (i .onward, i .within)
 
 pub laid-run-spec : {M : Type 1} → statement M
 laid-run-spec =
@@ -139,22 +139,21 @@ laid-run-spec =
     is-over-requires
     returns
     run-end-requires
+    cast-stop
     half-hours-requires
     cast-i
     mul-i
-    one-if-requires
+    cast-k
     loop-holds
     laid-front-requires
     enum-known-front
-    cast-powers
     mul-powers
     element-write-powers
-    cast-sum
-    add-sum
     add-at
     add-k
     add-i
     loop-less
     loop-again
     enum-told
+    cast-t20
     returns-2)

@@ -97,7 +97,7 @@ add-t26 c = search needs
 
 add-t22 : tie.Need-add-t22
 add-t22 c =
-    let w = rw (c .before .before .before .front .given .1) at (c .before .before .before .before .before .own-front .ensures) in
+    let w = rw (c .before .before .front .given .1) at (c .before .before .before .before .own-front .ensures) in
     omega (arith, w .2 .within)
 
 enum-told : tie.Need-enum-told
@@ -105,7 +105,7 @@ enum-told c = search needs
 
 returns-4 : tie.Need-returns-4
 returns-4 c =
-    let f = c .before .before .before .before .before in
+    let f = c .before .before .before .before in
     let e = f .before in
     let k = listed e in
     let l = begun k in
@@ -119,7 +119,7 @@ returns-4 c =
     let p = k .before .run-end .ensures (omega arith) in
     let entries = listed-entries (a .steps) (a .t) (k .before .run-end .result) (half .result * 10) p (omega arith) (omega arith) in
     let m = may-run (a .steps) (a .t) _ (l .before .is-over .ensures) (l .if1 .left) in
-    let w = rw (c .before .before .before .front .given .1, x .pre .2) at (f .own-front .ensures) in
+    let w = rw (c .before .before .front .given .1, x .pre .2) at (f .own-front .ensures) in
     let front = own-front (a .s .now) labelList (a .at) (half .result * 10) (found .result) _ _ laid (entries .0) (entries .1) w in
     let told = listed-next (a .steps) (a .t) (k .before .run-end .result) (half .result * 10) p (omega arith) (omega arith) (a .s .now) (a .at) _ _ (a .powers .now)
     (m .1) (m .0) (m .2) (x .pre .1) front in

@@ -3,23 +3,23 @@ use borrow.Author.Needs.{needs}
 use Prim.Native.Nat.{_-_}
 use native.Mathlib.Omega.{arith}
 use Rattle.request_reader.proofs.StepRuns.{onward-refl}
-use Rattle.request_reader.proofs.RunLoops.{keptAt, kept-here, RunInv, front-small, run-start, run-entries, run-more}
+use Rattle.request_reader.proofs.RunLoops.{RunInv, run-start, run-entries, run-more}
 use Rattle.request_reader.proofs.RunStarts.{may-run}
 use Rattle.request_reader.proofs.runs.plain_run.Statement.{statement}
 use Rattle.request_reader.proofs.runs.plain_run.Tie as tie
 
 abbrev Inv-loop : tie.InvT-loop
-Inv-loop s from steps labels powers₀ k₀ stop i₀ sum₀ at₀ powers k i sum at =
-    RunInv steps k₀ stop s from (keptAt k₀ sum₀ powers₀) k i sum at powers
+Inv-loop s from t steps labels powers₀ k₀ stop i₀ at₀ powers k i at =
+    RunInv steps k₀ stop s from (record { tally = t; powers = powers₀ }) k i at powers
 
 abbrev μ-loop : tie.MeasureT-loop
-μ-loop s from steps labels powers₀ k₀ stop i₀ sum₀ at₀ powers k i sum at = stop - k
+μ-loop s from t steps labels powers₀ k₀ stop i₀ at₀ powers k i at = stop - k
 
 is-over-requires : tie.Need-is-over-requires Inv-loop μ-loop
 is-over-requires c κs = search needs
 
 returns : tie.Need-returns Inv-loop μ-loop
-returns c = let a = c .before .before .before .before .args in (onward-refl (a .steps) (a .s .now) (a .from) _, c .before .before .before .before .pre .0)
+returns c = let x = c .before .before .before .before in (onward-refl (x .args .steps) (x .args .s .now) (x .args .from) _, x .pre .0)
 
 run-end-requires : tie.Need-run-end-requires Inv-loop μ-loop
 run-end-requires c κs =
@@ -39,26 +39,24 @@ cast-i c = search needs
 mul-i : tie.Need-mul-i Inv-loop μ-loop
 mul-i c = search needs
 
-one-if-requires : tie.Need-one-if-requires Inv-loop μ-loop
-one-if-requires c κs = search needs
-
 loop-holds : tie.Need-loop-holds Inv-loop μ-loop
 loop-holds c =
-    let o = c .before .before .before in
-    let x = o .before .before .before .before in
+    let l = c .before .before in
+    let x = l .before .before .before .before in
     let a = x .args in
-    let e = c .before .half-hours .ensures .0 in
-    run-start (a .steps) (a .t .lines) _ (a .s .now) (a .from) _ _ _ (omega arith) (c .one-if .ensures .1) (x .pre .0)
+    let m = may-run (a .steps) (a .t) _ (l .before .is-over .ensures) (l .if1 .left) in
+    let e = c .half-hours .ensures .0 in
+    run-start (a .steps) _ (a .s .now) (a .from) _ (a .t) (a .powers .now) (m .1) (omega arith) (x .pre .0)
 
 plain-next-requires : tie.Need-plain-next-requires Inv-loop μ-loop
 plain-next-requires c κs =
     let l = c .before .loop in
-    let d = c .before .before .before .before in
+    let d = c .before .before .before in
     let x = d .before .before .before .before .before in
     let a = x .args in
     let h = c .loop-test .taken in
     let p = d .run-end .ensures (omega (arith, l .inv .on)) in
-    let e = run-entries (a .steps) (a .t .lines) (d .run-end .result) (a .s .now) (a .from) _ p _ _ _ _ _ (l .inv) h in
+    let e = run-entries (a .steps) (a .t .lines) (d .run-end .result) (a .s .now) (a .from) _ p _ _ _ _ (l .inv) h in
     (l .inv .within, rw (x .pre .2) (e .0), rw (x .pre .2) (e .1))
 
 enum-known-front : tie.Need-enum-known-front Inv-loop μ-loop
@@ -73,24 +71,11 @@ mul-powers c = search needs
 element-write-powers : tie.Need-element-write-powers Inv-loop μ-loop
 element-write-powers c =
     let l = c .before .before .before .before .before in
-    let d = l .before .before .before in
+    let d = l .before .before in
     let x = d .before .before .before .before .before in
     let h = c .before .before .before .before .loop-test .taken in
     let p = d .run-end .ensures (omega (arith, l .loop .inv .on)) in
     omega (arith, x .pre .1, p .within)
-
-cast-sum : tie.Need-cast-sum Inv-loop μ-loop
-cast-sum c = search needs
-
-add-sum : tie.Need-add-sum Inv-loop μ-loop
-add-sum c =
-    let l = c .before .before .before .before .before in
-    let d = l .before .before .before in
-    let x = d .before .before .before .before .before in
-    let h = c .before .before .before .before .loop-test .taken in
-    let p = d .run-end .ensures (omega (arith, l .loop .inv .on)) in
-    let w = rw (c .before .front .given .1) at (c .before .before .before .plain-next .ensures) in
-    omega (arith, x .pre .1, p .within, l .loop .inv .small, front-small _ _ _ _ _ _ _ w)
 
 add-at : tie.Need-add-at Inv-loop μ-loop
 add-at c =
@@ -109,7 +94,7 @@ loop-less c = search needs
 loop-again : tie.Need-loop-again Inv-loop μ-loop
 loop-again c =
     let l = c .before .before .before .before .before in
-    let d = l .before .before .before in
+    let d = l .before .before in
     let o = d .before in
     let x = o .before .before .before .before in
     let a = x .args in
@@ -117,18 +102,16 @@ loop-again c =
     let h = c .before .before .before .before .loop-test .taken in
     let p = d .run-end .ensures (omega (arith, l .loop .inv .on)) in
     let w = rw (c .before .front .given .1, x .pre .2) at (c .before .before .before .plain-next .ensures) in
-    run-more (a .steps) (a .t .lines) (d .run-end .result) (a .s .now) (a .from) _ p _ _ _ _ _ (l .loop .inv) h (m .2) (x .pre .1) _ _ w
+    run-more (a .steps) (a .t .lines) (d .run-end .result) (a .s .now) (a .from) _ p _ _ _ _ (l .loop .inv) h (m .2) (x .pre .1) _ _ w
 
 enum-told : tie.Need-enum-told Inv-loop μ-loop
 enum-told c = search needs
 
 returns-2 : tie.Need-returns-2 Inv-loop μ-loop
-returns-2 c =
-    let i = c .before .loop .inv in
-    let o = c .before .before .before .before .before in
-    let a = o .before .before .before .before .args in
-    let m = may-run (a .steps) (a .t) _ (o .before .is-over .ensures) (o .if1 .left) in
-    (rw (kept-here (a .t) _ _ (m .1) (c .before .before .one-if .ensures .0)) at (i .onward), i .within)
+returns-2 c = let i = c .before .loop .inv in (i .onward, i .within)
+
+returns-3 : tie.Need-returns-3 Inv-loop μ-loop
+returns-3 c = let i = c .before .before .before .before .loop .inv in (i .onward, i .within)
 
 pub plain-run-spec : {M : Type 1} → statement M
 plain-run-spec =
@@ -142,19 +125,17 @@ plain-run-spec =
     half-hours-requires
     cast-i
     mul-i
-    one-if-requires
     loop-holds
     plain-next-requires
     enum-known-front
     cast-powers
     mul-powers
     element-write-powers
-    cast-sum
-    add-sum
     add-at
     add-k
     add-i
     loop-less
     loop-again
     enum-told
-    returns-2)
+    returns-2
+    returns-3)

@@ -15,11 +15,8 @@ returns c = none-filed _ _ _ _ _ (c .before .if1 .taken) (c .refused .ensures)
 first-text-requires : tie.Need-first-text-requires
 first-text-requires c κs = search needs
 
-second-text-requires : tie.Need-second-text-requires
-second-text-requires c κs = search needs
-
-file-requires : tie.Need-file-requires
-file-requires c κs = search needs
+file-reading-requires : tie.Need-file-reading-requires
+file-reading-requires c κs = search needs
 
 turned-requires : tie.Need-turned-requires
 turned-requires c κs = search needs
@@ -27,7 +24,7 @@ turned-requires c κs = search needs
 returns-2 : tie.Need-returns-2
 returns-2 c =
     let p = c .before .before .before .before .before .before .before in
-    tells-done (c .turned .ensures) (c .before .file .ensures) ∙ one-filed _ _ _ (p .before .before .if1 .left) (p .before .first-text .ensures) (p .second-text .ensures)
+    tells-done (c .turned .ensures) (c .before .file-reading .ensures) ∙ one-filed _ _ _ _ (p .before .if1 .left) (p .first-text .ensures)
 
 pub filed-spec : {M : Type 1} → statement M
 filed-spec =
@@ -36,7 +33,6 @@ filed-spec =
     refused-requires
     returns
     first-text-requires
-    second-text-requires
-    file-requires
+    file-reading-requires
     turned-requires
     returns-2)
