@@ -1,6 +1,6 @@
 -- What is kept after all steps, however they are told, is what the table says of them: their number, the first fault, the powers.
 use mathlib.Core.Path.{_≡_, refl, sym, ap, subst, _∙_}
-use mathlib.Core.Bool.{Bool, true, false, cond, not, _&&_, and-assoc, and-true}
+use mathlib.Core.Bool.{Bool, true, false, cond, not, _&&_}
 use mathlib.Core.List.{List, [], _∷_, _++_}
 use Prim.Native.Nat.{ℕ, zero, suc, _+_, _-_, _<_, _≤_, min}
 use native.Mathlib.Nat.{zero-add}
@@ -51,18 +51,23 @@ module _ (steps : ℕ) (t : Tally) (ps : List ℕ) where
 
 -- ---- whether every power is 0
 
-module _ (ps : List ℕ) (so-far : Bool) (i : ℕ) (e : (so-far && allZero (drop i ps)) ≡ allZero ps) where
-  -- one more is looked at
-  pub zero-more : i < length ps → ((so-far && eqb (getD ps i 0) 0) && allZero (drop (i + 1) ps)) ≡ allZero ps
+module _ (ps : List ℕ) (i : ℕ) (e : allZero (drop i ps) ≡ allZero ps) where
+  next-zero : i < length ps → (eqb (getD ps i 0) 0 && allZero (drop (i + 1) ps)) ≡ allZero ps
   unfolding allZero
-  zero-more h =
-      let d : allZero (drop i ps) ≡ (eqb (getD ps i 0) 0 && allZero (drop (i + 1) ps)) = rw (add-one i) (ap allZero (drop-cons ps i 0 h)) in
-      and-assoc so-far (eqb (getD ps i 0) 0) (allZero (drop (i + 1) ps)) ∙ (ap (λ (b : Bool). so-far && b) (sym d) ∙ e)
+  next-zero h = sym (rw (add-one i) (ap allZero (drop-cons ps i 0 h))) ∙ e
+
+  -- one is not 0
+  pub zero-not : i < length ps → (getD ps i 0 ≡ 0 → ⊥) → false ≡ allZero ps
+  zero-not h f = rw (ne-eqb (getD ps i 0) 0 f) at (next-zero h)
+
+  -- one more is
+  pub zero-more : i < length ps → getD ps i 0 ≡ 0 → allZero (drop (i + 1) ps) ≡ allZero ps
+  zero-more h f = rw (eq-eqb (getD ps i 0) 0 f) at (next-zero h)
 
   -- each was looked at
-  pub zero-all : length ps ≤ i → so-far ≡ allZero ps
+  pub zero-all : length ps ≤ i → true ≡ allZero ps
   unfolding allZero
-  zero-all h = sym (and-true so-far) ∙ (ap (λ (s : List ℕ). so-far && allZero s) (sym (drop-of-length-le ps h)) ∙ e)
+  zero-all h = rw (drop-of-length-le ps h) at e
 
 -- ---- the powers in their places
 

@@ -37,17 +37,18 @@ pub fn refuse(r: Refusal) -> Reading
     }
 }
 
-// Whether every power is 0. Each is looked at, so that many are compared at once.
+// Whether every power is 0: most often the first isn't.
 fn is_zero(powers: [u16; 50]) -> bool
     ensures { λ r. ⌜ r ≡ allZero powers ⌝ }
 {
-    let mut zero = true;
     let mut i: usize = 0;
     while i < 50 {
-        zero = zero & (powers[i] == 0);
+        if powers[i] != 0 {
+            return false;
+        }
         i += 1;
     }
-    zero
+    true
 }
 
 // What the lines come to: their number, the first fault, whether a power isn't 0.
