@@ -1,5 +1,7 @@
 // What an answer says, in document 01's numbers: the refusal's number and place, or the result's values ("The script
 // program", "Choosing the form by place").
+#![tactic(auto)]
+
 ghost use Rattle.std.specs.Prelude.{◌≡◌};
 ghost use Rattle.answers.specs.Values.{said_refused, said_no, said_of, said_engaged, said_listed, said_shown};
 
@@ -12,7 +14,7 @@ const NO_LETTER: u32 = 3;
 // What an answer says: number and place of the refusal, 0 and 0 where there is none; how many values the result has,
 // which of them is a letter (3: none), and the values, 0 past their count.
 #[repr(C)]
-#[derive(Drop)]
+#[derive(Clone, Copy)]
 pub struct Said {
     pub number: u32,
     pub place: u32,

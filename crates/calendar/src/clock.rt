@@ -14,14 +14,14 @@ const NEUTRAL_STEPS: u32 = 2;
 
 // A day and the minutes elapsed since its local midnight.
 #[repr(C)]
-#[derive(Drop)]
+#[derive(Clone, Copy)]
 pub struct Clock {
     pub day: u32,
     pub minute: u32,
 }
 
 // What comes of moving the clock: the clock at the new moment, or a refusal.
-#[derive(Drop)]
+#[derive(Clone, Copy)]
 pub enum Advance {
     Moved(Clock),
     Refused(Refusal),

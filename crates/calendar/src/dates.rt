@@ -17,7 +17,7 @@ const FOUR_YEARS: u32 = 1461;
 const MONTHS: u32 = 12;
 
 // A date: the year from 0 for 2000, the month and the day from 1.
-#[derive(Drop)]
+#[derive(Clone, Copy)]
 pub struct Date {
     pub year: u32,
     pub month: u32,

@@ -17,14 +17,14 @@ const LONG_TURN: u32 = 7;
 const HOUR: u32 = 60;
 
 // A time of day as text: 5 bytes, or 9 where it stands for the second time; the bytes past them are 0.
-#[derive(Drop)]
+#[derive(Clone, Copy)]
 pub struct Label {
     pub bytes: [u8; 9],
     pub len: u32,
 }
 
 // The two labels of a step.
-#[derive(Drop)]
+#[derive(Clone, Copy)]
 pub struct Labels {
     pub from: Label,
     pub until: Label,

@@ -1,5 +1,7 @@
 // Days and steps (document 01, "Days and steps"): dates and day numbers, the steps of a day and their labels, the
 // clock.
+#![tactic(auto)]
+
 pub mod change_days;
 pub mod clock;
 pub mod dates;

@@ -17,7 +17,7 @@ const CENTURY: u32 = 20;
 const NO_PAIR: u32 = 100;
 
 // What a text stands for.
-#[derive(Drop)]
+#[derive(Clone, Copy)]
 pub enum Day {
     Number(u32),
     NoDay,

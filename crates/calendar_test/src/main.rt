@@ -1,6 +1,8 @@
 // Prints what the calendar answers: every day in sums by year, the change days, every label, and the dates, minutes and
 // moves of the clock that document 01 names. The file `stdout` holds what a calendar written apart from this one
 // answers.
+#![tactic(auto)]
+
 mod clocks;
 mod dates;
 mod days;

@@ -1,4 +1,6 @@
 // The check character of an EIC code (document 02, K5).
+#![tactic(auto)]
+
 ghost use Rattle.std.specs.Prelude.{◌≡◌};
 ghost use Rattle.codes.specs.Codes.{is_letter, value_of, check_value, has_check};
 

@@ -12,7 +12,7 @@ use tables::loads::{Found, LOADS};
 pub const BASE: u32 = 16777216;
 
 // What two actors have at each step, counted from the base.
-#[derive(Drop)]
+#[derive(Clone, Copy)]
 pub struct Nets {
     pub ceder: [u32; 50],
     pub acquirer: [u32; 50],

@@ -1,11 +1,13 @@
 // What calls of the register answer. The ledger of document 01 is in specs/, what holds of every list of calls in
 // proofs/.
+#![tactic(auto)]
+
 use notification::Notification;
 use refusals::{Refusal, Verdict};
 
 // An actor: its code and its contract, from a first to a last day, both included.
 #[repr(C)]
-#[derive(Drop)]
+#[derive(Clone, Copy)]
 pub struct Actor {
     pub code: [u8; 16],
     pub first: u32,
@@ -13,13 +15,13 @@ pub struct Actor {
 }
 
 // The entry that a filing comes through: the one of document 01, which looks seven days ahead.
-#[derive(Drop)]
+#[derive(Clone, Copy)]
 pub enum Entry {
     SevenDays,
 }
 
 // What a call of demand 3's list answers.
-#[derive(Drop)]
+#[derive(Clone, Copy)]
 pub enum Answer {
     // The clock moved.
     Moved,
@@ -31,14 +33,14 @@ pub enum Answer {
 }
 
 // What the engagement call answers.
-#[derive(Drop)]
+#[derive(Clone, Copy)]
 pub enum Engaged {
     Power(u32),
     Refused(Refusal),
 }
 
 // What the record call answers: the whole record, or a refusal beside a blank one.
-#[derive(Drop)]
+#[derive(Clone, Copy)]
 pub struct Shown {
     pub verdict: Verdict,
     pub submitter: [u8; 16],
@@ -49,7 +51,7 @@ pub struct Shown {
 }
 
 // What the history call answers: how many ids it put into the lent buffer.
-#[derive(Drop)]
+#[derive(Clone, Copy)]
 pub enum Listed {
     Count(u32),
     Refused(Refusal),

@@ -16,7 +16,7 @@ use session::calling::filed;
 use std::num::wrapping_add_u64;
 
 // What the lines want before they go on.
-#[derive(Drop)]
+#[derive(Clone, Copy)]
 pub enum Wants {
     // more input: no line is left that has its LF
     Input,
@@ -28,7 +28,7 @@ pub enum Wants {
 
 // How far the lines went: the register's head, how many lines were answered so far, where the next one starts, how many
 // bytes of answers wait, and what is wanted.
-#[derive(Drop)]
+#[derive(Clone, Copy)]
 pub struct Progress {
     pub head: Head,
     pub number: u64,

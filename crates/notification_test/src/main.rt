@@ -1,6 +1,8 @@
 // Prints what the writer and the reader answer: the guide's example, with each refusal at several places, the file of a
 // long day, each file also with its body in pieces, and the notifications that the writer refuses. The file `stdout`
 // holds what a reader and a writer that were written apart from these answer.
+#![tactic(auto)]
+
 mod cuts;
 mod days;
 mod faults;

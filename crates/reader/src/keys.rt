@@ -8,7 +8,7 @@ use notification::Key;
 use notification::forms::{is_category, is_code, six, sixteen};
 
 // Whether a text is a key's, and the key.
-#[derive(Drop)]
+#[derive(Clone, Copy)]
 pub struct KeyRead {
     pub good: bool,
     pub key: Key,

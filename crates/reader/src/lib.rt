@@ -1,4 +1,6 @@
 // The reader of the notification file (document 01, "The notification file").
+#![tactic(auto)]
+
 pub mod header;
 mod keys;
 mod lines;

@@ -16,14 +16,14 @@ const NAMES_HEADER: u32 = 1;
 // What a file's lines so far have shown: what was found of the header (0: no line yet, 1: it is the name's, 3 and 4:
 // what refuses it), and the steps.
 #[repr(C)]
-#[derive(Drop)]
+#[derive(Clone, Copy)]
 pub struct FileTally {
     pub header: u32,
     pub steps: Tally,
 }
 
 // Lines that were taken, and where the next one begins.
-#[derive(Drop)]
+#[derive(Clone, Copy)]
 pub struct FileRun {
     pub tally: FileTally,
     pub at: usize,

@@ -49,7 +49,7 @@ const STEPS: u32 = 50;
 // name is none), and these bytes. Of the body: how many bytes came, what the whole lines have shown, the powers, and
 // the beginning of the line in hand, with how many bytes it has.
 #[repr(C)]
-#[derive(Drop)]
+#[derive(Clone, Copy)]
 pub struct FileReader {
     pub day: u32,
     pub steps: u32,
@@ -63,7 +63,7 @@ pub struct FileReader {
 }
 
 // A line in hand that ends: its bytes and LF, and how many it has without LF.
-#[derive(Drop)]
+#[derive(Clone, Copy)]
 struct WholeLine {
     text: [u8; 65],
     length: u32,

@@ -6,7 +6,7 @@ use lists::bytes::byte_at;
 use lists::numbers::digit_value;
 
 // What bytes begin with: a power and `;`, with how many bytes these are, or no power.
-#[derive(Drop)]
+#[derive(Clone, Copy)]
 pub enum Power {
     Is(u16, usize),
     Not,

@@ -77,7 +77,7 @@ fn take_step(t: Tally, steps: u32, line: &[u8], powers: &mut [u16; 50]) -> Tally
 }
 
 // Lines that were taken, and where the next one begins.
-#[derive(Drop)]
+#[derive(Clone, Copy)]
 pub struct Run {
     pub tally: Tally,
     pub at: usize,

@@ -16,7 +16,7 @@ const POWER: u32 = 7;
 
 // What the steps so far have shown: how many there were, the first fault, and its place.
 #[repr(C)]
-#[derive(Drop)]
+#[derive(Clone, Copy)]
 pub struct Tally {
     pub lines: u32,
     pub fault: u32,
@@ -24,7 +24,7 @@ pub struct Tally {
 }
 
 // What is said of a step.
-#[derive(Drop)]
+#[derive(Clone, Copy)]
 pub enum LinePower {
     Gives(u16),
     NoLabels,

@@ -10,7 +10,7 @@ use tables::markets::next_of;
 use tables::records::{UPDATED, VALIDATED};
 
 // What an actor acquires, and what it cedes.
-#[derive(Drop)]
+#[derive(Clone, Copy)]
 pub struct Totals {
     pub gained: u32,
     pub given: u32,

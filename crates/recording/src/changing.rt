@@ -15,7 +15,7 @@ use tables::records::{ANSWERED, CREATED, DELETED, OBSOLETE, UPDATED, VALIDATED};
 use tables::sizes::{size_marks, size_u8};
 
 // A record's status and until-step.
-#[derive(Drop)]
+#[derive(Clone, Copy)]
 pub struct Change {
     pub status: u8,
     pub until: u8,

@@ -1,4 +1,6 @@
 // What is done with the records of a register: paired, changed, added up, found and listed.
+#![tactic(auto)]
+
 pub mod adding;
 pub mod changing;
 pub mod dealing;

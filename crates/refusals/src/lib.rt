@@ -1,11 +1,13 @@
 // What a call is refused for (document 01, "Refusals that come from the input", "Refusals that come from the state").
+#![tactic(auto)]
+
 ghost use Rattle.std.specs.Prelude.{◌≡◌};
 ghost use Rattle.refusals.specs.Numbers.{input_number, state_number, number_of, place_of};
 
 pub mod trying;
 
 // Refusals that come from the input, 1 to 10, 42 and 43. (11 is the program's alone.)
-#[derive(Drop)]
+#[derive(Clone, Copy)]
 pub enum InputRefusal {
     // 1: the name isn't of that form
     Name,
@@ -34,7 +36,7 @@ pub enum InputRefusal {
 }
 
 // Refusals that come from the state, 20 to 41.
-#[derive(Drop)]
+#[derive(Clone, Copy)]
 pub enum StateRefusal {
     // 20, 21: ceder, acquirer not enrolled
     CederUnknown,
@@ -77,14 +79,14 @@ pub enum StateRefusal {
 }
 
 // A refusal with its place.
-#[derive(Drop)]
+#[derive(Clone, Copy)]
 pub enum Refusal {
     Input(InputRefusal, u32),
     State(StateRefusal, u32),
 }
 
 // What a list of tests comes to.
-#[derive(Drop)]
+#[derive(Clone, Copy)]
 pub enum Verdict {
     Pass,
     No(Refusal),

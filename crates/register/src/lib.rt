@@ -1,4 +1,6 @@
 // The register (document 01, "The ledger"): a head that calls take and hand back, and columns that the caller lends.
+#![tactic(auto)]
+
 pub mod asking;
 pub mod enrolling;
 pub mod filing;
@@ -16,7 +18,7 @@ use tables::categories::Categories;
 // record is lent: of a load its number, its approved power and its row of powers, of a record its status, id, key, mark
 // and row of powers.
 #[repr(C)]
-#[derive(Drop)]
+#[derive(Clone, Copy)]
 pub struct Head {
     pub clock: Clock,
     pub actors: Actors,
@@ -27,7 +29,7 @@ pub struct Head {
 
 // A fresh register: its head, and the statuses and ids of its records. What else is lent may hold anything.
 #[repr(C)]
-#[derive(Drop)]
+#[derive(Clone, Copy)]
 pub struct Fresh {
     pub head: Head,
     pub statuses: [u8; 256],
@@ -35,7 +37,7 @@ pub struct Fresh {
 }
 
 // The head that a call leaves, and its answer.
-#[derive(Drop)]
+#[derive(Clone, Copy)]
 pub struct Reply {
     pub head: Head,
     pub answer: Answer,

@@ -7,7 +7,7 @@ use answers::{Said, of_answer};
 
 // The head that a call leaves, and what it says.
 #[repr(C)]
-#[derive(Drop)]
+#[derive(Clone, Copy)]
 pub struct Turn {
     pub head: Head,
     pub said: Said,

@@ -50,7 +50,7 @@ fn is_beyond(first: u32, reach: u32, day: u32) -> bool
 }
 
 // Where the actors and the category of a filing are enrolled, and its day.
-#[derive(Drop)]
+#[derive(Clone, Copy)]
 pub struct Places {
     pub ceder: u32,
     pub acquirer: u32,
@@ -60,7 +60,7 @@ pub struct Places {
 }
 
 // What a filing comes to, and how many records under its key are listed.
-#[derive(Drop)]
+#[derive(Clone, Copy)]
 pub struct Judged {
     pub verdict: Verdict,
     pub count: u32,

@@ -13,7 +13,7 @@ use register::Head;
 
 // Number and place of the refusal, 0 and 0 where there is none; then the whole record.
 #[repr(C)]
-#[derive(Drop)]
+#[derive(Clone, Copy)]
 pub struct RecordShown {
     pub number: u32,
     pub place: u32,

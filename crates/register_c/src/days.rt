@@ -8,7 +8,7 @@ use calendar::{DAYS, Day};
 
 // The eight digits of a date.
 #[repr(C)]
-#[derive(Drop)]
+#[derive(Clone, Copy)]
 pub struct DateText {
     pub digits: [u8; 8],
 }

@@ -14,7 +14,7 @@ use writer::writing::write_file;
 
 // Number and place of the refusal, 0 and 0 where there is none; then the notification.
 #[repr(C)]
-#[derive(Drop)]
+#[derive(Clone, Copy)]
 pub struct FileRead {
     pub number: u32,
     pub place: u32,
@@ -28,7 +28,7 @@ pub struct FileRead {
 
 // Number and place of the refusal, 0 and 0 where there is none; then the lengths of name and body.
 #[repr(C)]
-#[derive(Drop)]
+#[derive(Clone, Copy)]
 pub struct FileWritten {
     pub number: u32,
     pub place: u32,

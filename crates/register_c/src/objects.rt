@@ -15,7 +15,7 @@ use request_writer::writing::write_object;
 // Number and place of the refusal and the notification as of a file; then day and second of the submission, and the
 // origin.
 #[repr(C)]
-#[derive(Drop)]
+#[derive(Clone, Copy)]
 pub struct ObjectRead {
     pub read: FileRead,
     pub day: u32,
@@ -25,7 +25,7 @@ pub struct ObjectRead {
 
 // Number and place of the refusal, 0 and 0 where there is none; then the length of the object.
 #[repr(C)]
-#[derive(Drop)]
+#[derive(Clone, Copy)]
 pub struct ObjectWritten {
     pub number: u32,
     pub place: u32,

@@ -12,7 +12,7 @@ use refusals::{InputRefusal, Refusal};
 const BODY: usize = 4097;
 
 // What is known of a file: whether it can be read, and what it is read as.
-#[derive(Drop)]
+#[derive(Clone, Copy)]
 pub(crate) struct File {
     pub(crate) readable: bool,
     pub(crate) reading: Reading,

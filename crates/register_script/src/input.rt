@@ -6,7 +6,7 @@ use libc::STDIN_FILENO;
 use lines::holding::{end_line, hold};
 
 // The bytes that are there now: where they end, whether nothing comes behind them, and whether the input failed.
-#[derive(Drop)]
+#[derive(Clone, Copy)]
 pub(crate) struct Block {
     pub(crate) end: usize,
     pub(crate) last: bool,

@@ -1,6 +1,8 @@
 // The script program's input and output (document 01, "The script program"): standard input in, a line for each line
 // out. Which lines there are, what they ask and what they are answered is in the crates lines, session and script; here
 // bytes are only moved.
+#![tactic(auto)]
+
 ghost use Rattle.std.specs.Prelude.{◌≤◌};
 
 mod bodies;

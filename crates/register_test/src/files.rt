@@ -6,7 +6,7 @@ use notification::{Notification, Written};
 use writer::writing::write_file;
 
 // A name and a body, each with its length.
-#[derive(Drop)]
+#[derive(Clone, Copy)]
 pub(crate) struct File {
     pub name: [u8; 57],
     pub name_length: usize,
@@ -15,7 +15,7 @@ pub(crate) struct File {
 }
 
 // How long a name and a body are.
-#[derive(Drop)]
+#[derive(Clone, Copy)]
 struct Lengths {
     name: usize,
     body: usize,

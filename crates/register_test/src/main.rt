@@ -3,6 +3,8 @@
 // is a call in words: see `calls`, `files` and `questions`. A line is printed with its answer: `ok` and the result, or
 // `no`, the number and the place. The file `stdout` holds what a register that was written apart from this one answers
 // to the same calls.
+#![tactic(auto)]
+
 mod actors;
 mod calls;
 mod files;

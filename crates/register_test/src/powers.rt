@@ -6,7 +6,7 @@ use notification::forms::six;
 use notification::{Key, Notification};
 
 // One power at each step below a turn, and another from the turn on.
-#[derive(Drop)]
+#[derive(Clone, Copy)]
 pub(crate) struct Profile {
     first: u32,
     turn: u32,
@@ -53,7 +53,7 @@ fn loaded_powers(p: Profile) -> [u32; 50] {
 }
 
 // A load: whose, for which day, the approved power, and the powers, as many as the count says.
-#[derive(Drop)]
+#[derive(Clone, Copy)]
 pub(crate) struct Load {
     pub actor: [u8; 16],
     pub day: u32,

@@ -1,19 +1,21 @@
 // The request of the machine interface (document 02, K3): a notification as the JSON object of source document 003,
 // section 5.3, with its origin and the moment of its submission.
+#![tactic(auto)]
+
 pub mod labels;
 
 use notification::Notification;
 use refusals::{Refusal, Verdict};
 
 // A moment: a day and a second of it.
-#[derive(Drop)]
+#[derive(Clone, Copy)]
 pub struct Moment {
     pub day: u32,
     pub second: u32,
 }
 
 // What an object says: a notification, the code of the actor who submits it, and when.
-#[derive(Drop)]
+#[derive(Clone, Copy)]
 pub struct Request {
     pub notification: Notification,
     pub origin: [u8; 16],
@@ -21,14 +23,14 @@ pub struct Request {
 }
 
 // What reading an object comes to: a pass with the request, or a refusal beside a blank one.
-#[derive(Drop)]
+#[derive(Clone, Copy)]
 pub struct RequestRead {
     pub verdict: Verdict,
     pub request: Request,
 }
 
 // What writing an object comes to: its length, or a refusal.
-#[derive(Drop)]
+#[derive(Clone, Copy)]
 pub enum RequestWritten {
     Length(usize),
     Refused(Refusal),

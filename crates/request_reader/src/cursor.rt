@@ -7,7 +7,7 @@ use crate::reading::read_from;
 use request::RequestRead;
 
 // The body of a request, and a place in it.
-#[derive(Drop)]
+#[derive(Clone, Copy)]
 pub struct Cursor<'a> {
     pub body: &'a [u8],
     pub at: usize,

@@ -16,7 +16,7 @@ use request::Moment;
 const LAST_SECOND: u32 = 86399;
 
 // The three codes, and the place after their members.
-#[derive(Drop)]
+#[derive(Clone, Copy)]
 pub struct Parties {
     pub ceder: [u8; 16],
     pub acquirer: [u8; 16],
@@ -25,7 +25,7 @@ pub struct Parties {
 }
 
 // The category and the two dates, and the place after their members.
-#[derive(Drop)]
+#[derive(Clone, Copy)]
 pub struct Terms {
     pub category: [u8; 6],
     pub day: Moment,

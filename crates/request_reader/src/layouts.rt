@@ -10,7 +10,7 @@ use reader::power::Power;
 
 // The places of a step's labels and of its power, and whether they were found: the labels have five bytes of which the
 // last is 0, and four bytes stand from the power on.
-#[derive(Drop)]
+#[derive(Clone, Copy)]
 pub struct Layout {
     pub regular: bool,
     pub first: usize,

@@ -1,5 +1,7 @@
 // The reader of the object that the machine interface sends (document 02, K3): one walk over the bytes of the request,
 // which are never copied.
+#![tactic(auto)]
+
 pub mod cursor;
 mod head;
 mod layouts;

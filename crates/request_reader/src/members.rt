@@ -14,21 +14,21 @@ use notification::forms::{is_category, is_code, six, sixteen};
 use request::Moment;
 
 // A code, and the place after its member.
-#[derive(Drop)]
+#[derive(Clone, Copy)]
 pub struct CodeRead {
     pub code: [u8; 16],
     pub at: usize,
 }
 
 // A category, and the place after its member.
-#[derive(Drop)]
+#[derive(Clone, Copy)]
 pub struct CategoryRead {
     pub category: [u8; 6],
     pub at: usize,
 }
 
 // A moment, and the place after its member.
-#[derive(Drop)]
+#[derive(Clone, Copy)]
 pub struct DatedRead {
     pub moment: Moment,
     pub at: usize,

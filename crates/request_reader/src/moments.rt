@@ -13,7 +13,7 @@ use request::Moment;
 const DAY_SECONDS: u32 = 86400;
 
 // Whether a text is a moment's, and the moment.
-#[derive(Drop)]
+#[derive(Clone, Copy)]
 pub struct MomentRead {
     pub good: bool,
     pub moment: Moment,

@@ -20,14 +20,14 @@ use request::labels::hour_label;
 const FIRST_STEP: u32 = 1;
 
 // What is kept after a step's power, and the place after it.
-#[derive(Drop)]
+#[derive(Clone, Copy)]
 pub struct Stepped {
     pub tally: Tally,
     pub at: usize,
 }
 
 // The same, and how the step is laid out.
-#[derive(Drop)]
+#[derive(Clone, Copy)]
 pub struct StepTold {
     pub tally: Tally,
     pub at: usize,
@@ -35,7 +35,7 @@ pub struct StepTold {
 }
 
 // Whether the steps and what closes the object stand there, and what is kept of them.
-#[derive(Drop)]
+#[derive(Clone, Copy)]
 pub struct SeriesRead {
     pub good: bool,
     pub tally: Tally,

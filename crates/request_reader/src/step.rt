@@ -17,21 +17,21 @@ use reader::power::{Power, power_of};
 use reader::tally::LinePower;
 
 // Whether a label is the one wanted, and the place after it.
-#[derive(Drop)]
+#[derive(Clone, Copy)]
 pub struct LabelRead {
     pub right: bool,
     pub at: usize,
 }
 
 // The power that digits give, and the place after them.
-#[derive(Drop)]
+#[derive(Clone, Copy)]
 pub struct PowerRead {
     pub power: Power,
     pub at: usize,
 }
 
 // What a step says, and the place after its power.
-#[derive(Drop)]
+#[derive(Clone, Copy)]
 pub struct StepRead {
     pub said: LinePower,
     pub at: usize,

@@ -1,4 +1,6 @@
 // The script program's lines (document 01, "The script program"): a line to what it asks, and an answer to a line.
+#![tactic(auto)]
+
 mod digits;
 mod fields;
 mod numbers;

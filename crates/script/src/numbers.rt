@@ -40,7 +40,7 @@ pub(crate) fn number_in(s: &[u8]) -> u32
 }
 
 // A field that is a number or should be: whether it is one, which (100,000 where it is none), and where the field ends.
-#[derive(Drop)]
+#[derive(Clone, Copy)]
 pub(crate) struct Numeral {
     pub good: bool,
     pub value: u32,

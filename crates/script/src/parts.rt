@@ -29,7 +29,7 @@ pub fn second_text(line: &[u8], read: Line) -> &[u8]
 }
 
 // The powers of a line, zeros after them, and how many they are.
-#[derive(Drop)]
+#[derive(Clone, Copy)]
 pub struct Powers {
     pub count: usize,
     pub numbers: [u32; 256],

@@ -11,7 +11,7 @@ use calendar::DAYS;
 use lists::bytes::has_byte;
 
 // The calls of demand 3's list that are all on their line.
-#[derive(Drop)]
+#[derive(Clone, Copy)]
 pub enum CallKind {
     Advance,
     EnrolActor,
@@ -20,7 +20,7 @@ pub enum CallKind {
 }
 
 // What a line asks. A line that files has its body in a file.
-#[derive(Drop)]
+#[derive(Clone, Copy)]
 pub enum Kind {
     Calls(CallKind),
     Files,
@@ -32,7 +32,7 @@ pub enum Kind {
 // A line read. Texts are spans of the line: the first starts at 2 and ends before `first`, the second starts one after
 // that and ends before `second`. `day` is also an actor's first day; `number` is a minute, an actor's last day, an
 // approved power, a step or an id. The powers are `count` fields that start at `from`. What a kind doesn't have is 0.
-#[derive(Drop)]
+#[derive(Clone, Copy)]
 pub struct Line {
     pub kind: Kind,
     pub first: u32,

@@ -13,7 +13,7 @@ pub const ACTORS: u32 = 8;
 
 // How many actors there are, and who; places past the count mean nothing.
 #[repr(C)]
-#[derive(Drop)]
+#[derive(Clone, Copy)]
 pub struct Actors {
     pub count: u32,
     pub entries: [Actor; 8],

@@ -13,14 +13,14 @@ pub const CATEGORIES: u32 = 4;
 
 // A category in six bytes; one without C ends with a 0.
 #[repr(C)]
-#[derive(Drop)]
+#[derive(Clone, Copy)]
 pub struct Category {
     pub text: [u8; 6],
 }
 
 // How many categories there are, and which; places past the count mean nothing.
 #[repr(C)]
-#[derive(Drop)]
+#[derive(Clone, Copy)]
 pub struct Categories {
     pub count: u32,
     pub entries: [Category; 4],

@@ -1,4 +1,6 @@
 // The tables of a register: actors, categories, loads and records.
+#![tactic(auto)]
+
 pub mod actors;
 pub mod categories;
 pub mod loads;

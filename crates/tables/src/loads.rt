@@ -12,7 +12,7 @@ use lists::numbers::{least, wide};
 pub const LOADS: u32 = 64;
 
 // Where a load or a record stands.
-#[derive(Drop)]
+#[derive(Clone, Copy)]
 pub enum Found {
     At(u32),
     Nothing,

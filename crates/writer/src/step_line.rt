@@ -9,7 +9,7 @@ use crate::placing::put_ended;
 use calendar::{Label, labels_of};
 
 // A power in digits: `len` of the bytes.
-#[derive(Drop)]
+#[derive(Clone, Copy)]
 pub struct Digits {
     pub bytes: [u8; 4],
     pub len: usize,
