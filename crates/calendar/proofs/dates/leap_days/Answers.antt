@@ -6,8 +6,7 @@ use lib.Dec.{eqb, eqb→eq, lit<}
 use borrow.Author.Tests.{eq-eqb, ne_eqb}
 use Rattle.calendar.specs.Dates.{leap_days}
 use Rattle.lists.proofs.Below.{below}
-use Rattle.calendar.proofs.dates.leap_days.Statement.{statement}
-use Rattle.calendar.proofs.dates.leap_days.Tie as tie
+use Rattle.calendar.proofs.dates.leap_days.Goals as goal
 
 abbrev fourth : ℕ → ℕ
 fourth y = cond (eqb (y % 4) 0) 1 0
@@ -19,11 +18,8 @@ every-fourth : (y : ℕ) → y < 100 → fourth y ≡ leap_days y
 unfolding right leap_days
 every-fourth y h = eqb→eq (fourth y) (leap_days y) (below right 100 tt y h)
 
-returns : tie.Need-returns
-returns c = let y = c.before.args.year in (rw (eq-eqb (y % 4) 0 c.if1.true) at (every-fourth y c.before.requires), lit< tt)
+pub returns-then-year-eq0 : goal.returns-then-year-eq0
+returns-then-year-eq0 c = let y = c.args.year in (rw (eq-eqb (y % 4) 0 c.if-year-eq0.true) at (every-fourth y c.requires), lit< tt)
 
-returns-2 : tie.Need-returns-2
-returns-2 c = let y = c.before.args.year in (rw (ne_eqb (y % 4) 0 c.if1.false) at (every-fourth y c.before.requires), lit< tt)
-
-pub leap-days-spec : {M : Type 1} → statement M
-leap-days-spec = tie.close (tie.spec returns returns-2)
+pub returns-else-year-eq0 : goal.returns-else-year-eq0
+returns-else-year-eq0 c = let y = c.args.year in (rw (ne_eqb (y % 4) 0 c.if-year-eq0.false) at (every-fourth y c.requires), lit< tt)
