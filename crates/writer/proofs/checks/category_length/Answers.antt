@@ -5,7 +5,7 @@ use Rattle.notification.proofs.Tested.{category_short, category_long}
 use Rattle.writer.proofs.checks.category_length.Goals as goal
 
 pub returns-then-category-eq0 : goal.returns-then-category-eq0
-returns-then-category-eq0 c = category_short c.args.t1 (good_length (e_int w8) 6 c.args.t1 _ c.well_formed.0) c.if-category-eq0.true
+returns-then-category-eq0 c = category_short c.args.category (good_length (e_int w8) 6 c.args.category _ c.well_formed.0) c.if-category-eq0.true
 
 pub returns-else-category-eq0 : goal.returns-else-category-eq0
-returns-else-category-eq0 c = category_long c.args.t1 (good_length (e_int w8) 6 c.args.t1 _ c.well_formed.0) c.if-category-eq0.false
+returns-else-category-eq0 c = category_long c.args.category (good_length (e_int w8) 6 c.args.category _ c.well_formed.0) c.if-category-eq0.false

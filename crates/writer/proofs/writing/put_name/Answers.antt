@@ -1,6 +1,4 @@
 -- `writing::put_name` meets its contract: the pieces of a name, one after the other.
-use mathlib.Core.Path.{sym}
-use lib.Seq.{length-take-le}
 use Rattle.writer.proofs.Pieces.{room_before, room_start, room_category, room_after, name_placed}
 use Rattle.writer.proofs.writing.put_name.Goals as goal
 
@@ -13,10 +11,6 @@ pub put_start-third-requires : goal.put_start-third-requires
 put_start-third-requires c =
     let n = c.category_length-n in
     room_start c.args.key c.args.buffer.now c.requires _ n.ensures.0 _ _ c.put_text-second.ensures
-
-pub slice-aggregate-put-text-2 : goal.slice-aggregate-put-text-2
-slice-aggregate-put-text-2 c =
-    sym (length-take-le _ _ (after-category-length (after-put-text c.before.before.before.before)).category_length.ensures.2)
 
 pub put_text-last-requires : goal.put_text-last-requires
 put_text-last-requires c =
