@@ -10,7 +10,7 @@ use native.Mathlib.Nat.{mul-add, suc-mul, one-mul}
 use native.Mathlib.Omega.{arith}
 use lib.Dec.{T, leb, ltb, eqb}
 use lib.ListN.{length, get_or, get_or-eq_default}
-use borrow.Author.Tests.{eqb-true, eqb-false, ltb-true, ltb-false, leb-true, lt-ltb, le-ltb, ne_eqb, not-true}
+use borrow.Author.Tests.{eq-eqb, eqb-true, eqb-false, ltb-true, ltb-false, leb-true, lt-ltb, le-ltb, ne_eqb, not-true}
 use Rattle.lists.specs.Tests.{grid}
 use Rattle.lists.specs.Searches.{every}
 use Rattle.lists.specs.Sums.{sum_to}
