@@ -25,10 +25,10 @@ use Rattle.tables.specs.contracts.categories.Categories as categories
 -- ---- lengths
 
 pub actors_length : (x : Actors) (vs : List Val) → Is actors.the_row x vs → length x.entries ≡ 8
-actors_length x vs p = sym (length-map x.entries (actor.the_field).into) ∙ p.1.1.1.0.1.0.1
+actors_length x vs p = p.1.1.1.0.1.0.1
 
 pub categories_length : (x : Categories) (vs : List Val) → Is categories.the_row x vs → length x.entries ≡ 4
-categories_length x vs p = sym (length-map x.entries (category.the_field).into) ∙ p.1.1.1.0.1.0.1
+categories_length x vs p = p.1.1.1.0.1.0.1
 
 -- ---- one entry more
 

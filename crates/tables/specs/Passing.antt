@@ -24,8 +24,8 @@ bits_from p i (suc n) = cond (p i) 1 0 + 2 * bits_from p (suc i) n
 
 -- how far the first j places of a list go
 abbrev pub reached : List ℕ → ℕ → ℕ
-reached places zero = 0
-reached places (suc j) = suc (get_or places j 0)
+reached ps zero = 0
+reached ps (suc j) = suc (get_or ps j 0)
 
 -- the numbers below n that are not among the first places of a list all fail a test
 pub record PlacesOf (test : ℕ → Bool) (n count : ℕ) (places : List ℕ) : Type 0 where

@@ -8,7 +8,7 @@ use Rattle.tables.proofs.Texts.{code_other, code_more, code_all}
 use Rattle.tables.proofs.actors.is_text.Goals as goal
 
 pub returns-then-s-ne16 : goal.returns-then-s-ne16
-returns-then-s-ne16 c = code_other c.args.t1 _ (good_length (e_int w8) 16 c.args.t1 _ c.well_formed.0) c.if-s-ne16.true
+returns-then-s-ne16 c = code_other c.args.code _ (good_length (e_int w8) 16 c.args.code _ c.well_formed.0) c.if-s-ne16.true
 
 pub loop-i-init : goal.loop-i-init
 unfolding same
@@ -17,9 +17,9 @@ loop-i-init c = (omega arith, refl)
 pub loop-i-preserved : goal.loop-i-preserved
 loop-i-preserved c =
     let l = c.loop-i in
-    (omega arith, code_more c.args.t1 _ l.i l.good (good_length (e_int w8) 16 c.args.t1 _ c.well_formed.0) c.if-s-ne16.false c.loop-i-test.true l.invariant.1)
+    (omega arith, code_more c.args.code _ l.i l.good (good_length (e_int w8) 16 c.args.code _ c.well_formed.0) c.if-s-ne16.false c.loop-i-test.true l.invariant.1)
 
 pub returns : goal.returns
 returns c =
     let l = c.loop-i in
-    code_all c.args.t1 _ l.i l.good (good_length (e_int w8) 16 c.args.t1 _ c.well_formed.0) c.if-s-ne16.false c.loop-i-test.false l.invariant.1
+    code_all c.args.code _ l.i l.good (good_length (e_int w8) 16 c.args.code _ c.well_formed.0) c.if-s-ne16.false c.loop-i-test.false l.invariant.1

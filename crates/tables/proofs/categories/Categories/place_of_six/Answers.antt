@@ -10,13 +10,13 @@ use Rattle.tables.proofs.categories.Categories.place_of_six.Goals as goal
 
 pub slice_bounds-place-end : goal.slice_bounds-place-end
 slice_bounds-place-end c =
-    let n = good_length (e_int w8) 6 c.args.t2 _ c.well_formed.1.0 in
-    sym (length-take-le 5 c.args.t2 (omega arith))
+    let n = good_length (e_int w8) 6 c.args.c _ c.well_formed.1.0 in
+    sym (length-take-le 5 c.args.c (omega arith))
 
 pub returns-then-c-eq0 : goal.returns-then-c-eq0
 returns-then-c-eq0 c =
-    c.place.ensures ∙ ap (category_at _) (text_short c.args.t2 c.if-c-eq0.true)
+    c.place.ensures ∙ ap (category_at _) (text_short c.args.c c.if-c-eq0.true)
 
 pub returns : goal.returns
 returns c =
-    c.place-2.ensures ∙ ap (category_at _) (text_long c.args.t2 c.if-c-eq0.false)
+    c.place-2.ensures ∙ ap (category_at _) (text_long c.args.c c.if-c-eq0.false)
