@@ -10,8 +10,10 @@ use Rattle.script.proofs.numbers.count_in.Goals.{Joined-near, then-near, else-ne
 -- the field is read, near or parted
 is_read : (j : Joined-near) → NumberRead j.args.line.now j.loop-at.at j.if-near.number
 is_read j =
-    elim j.if-near.branch [ then-near w ↦ subst (NumberRead _ _) (sym w.number-is) (j.near_number-near.ensures w.if-near.true)
-    | else-near w ↦ subst (NumberRead _ _) (sym w.number-is) w.parted_number-number.ensures ]
+    elim j.if-near.branch [
+      | then-near w ↦ subst (NumberRead _ _) (sym w.number-is) (j.near_number-near.ensures w.if-near.true)
+      | else-near w ↦ subst (NumberRead _ _) (sym w.number-is) w.parted_number-number.ensures
+    ]
 
 pub loop-at-init : goal.loop-at-init
 loop-at-init c = counted_none _ _ c.requires

@@ -10,8 +10,10 @@ use Rattle.script.proofs.parts.powers_of.Goals.{Joined-near, then-near, else-nea
 is_read : (j : Joined-near)
     → NumberRead j.args.line.now j.loop-count.at j.if-near.number
 is_read j =
-    elim j.if-near.branch [ then-near w ↦ subst (NumberRead _ _) (sym w.number-is) (j.near_number-near.ensures w.if-near.true)
-    | else-near w ↦ subst (NumberRead _ _) (sym w.number-is) w.parted_number-number.ensures ]
+    elim j.if-near.branch [
+      | then-near w ↦ subst (NumberRead _ _) (sym w.number-is) (j.near_number-near.ensures w.if-near.true)
+      | else-near w ↦ subst (NumberRead _ _) (sym w.number-is) w.parted_number-number.ensures
+    ]
 
 pub loop-count-init : goal.loop-count-init
 loop-count-init c = taking_none _ _ _ _ c.least_length-most.ensures
