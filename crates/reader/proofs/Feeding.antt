@@ -5,7 +5,7 @@ use mathlib.Core.List.{List, [], ◌∷◌, ◌++◌}
 use Prim.Native.Nat.{ℕ, ◌+◌, ◌<◌, ◌≤◌, min}
 use native.Mathlib.Omega.{arith}
 use lib.Dec.{leb, ltb, eqb}
-use lib.ListN.{length, take, drop, length-append, length-take, length-map}
+use lib.ListN.{length, take, drop, length-append, length-take}
 use lib.Seq.{take_at, take-take, length-take-le}
 use mir.Val.{Val}
 use denote.Laws.{Is}
@@ -33,10 +33,10 @@ use Rattle.reader.proofs.Copies.{take_least}
 -- ---- the arrays of a reader
 
 pub header_long : (r : FileReader) (vs : List Val) → Is reader.the_row r vs → length r.header ≡ 51
-header_long r vs p = sym (length-map r.header (λ x. x)) ∙ p.1.1.1.1.1.1.1.1.1.1.0.1.0.1
+header_long r vs p = p.1.1.1.1.1.1.1.1.1.1.0.1.0.1
 
 pub line_long : (r : FileReader) (vs : List Val) → Is reader.the_row r vs → length r.line ≡ 64
-line_long r vs p = sym (length-map r.line (λ x. x)) ∙ p.1.1.1.1.1.1.1.1.1.0.1.0.1
+line_long r vs p = p.1.1.1.1.1.1.1.1.1.0.1.0.1
 
 -- ---- a file begun
 

@@ -7,13 +7,13 @@ use Rattle.judging.proofs.nets.apply_record.Goals as goal
 pub returns-then-gains-gives : goal.returns-then-gains-gives
 returns-then-gains-gives c =
     let a = c.args in
-    applied_same a.net.now a.gains a.gives a.t4 (get_or a.rows.now a.i []) a.first a.until c.requires.2.fifty (alike a.gains a.gives c.if-gains-gives.true)
+    applied_same a.net.now a.gains a.gives a.mark (get_or a.rows.now a.i []) a.first a.until c.requires.2.fifty (alike a.gains a.gives c.if-gains-gives.true)
 
 pub returns-then-till-first : goal.returns-then-till-first
 returns-then-till-first c =
     let a = c.args in
     let till = c.byte-till.ensures.0 in
-    applied_past a.net.now a.gains a.gives a.t4 (get_or a.rows.now a.i []) a.first a.until c.requires.2.fifty (omega arith)
+    applied_past a.net.now a.gains a.gives a.mark (get_or a.rows.now a.i []) a.first a.until c.requires.2.fifty (omega arith)
 
 pub returns-then-from-first : goal.returns-then-from-first
 returns-then-from-first c =
@@ -23,11 +23,11 @@ returns-then-from-first c =
     let f = c.byte-from.result in
     let t = c.byte-till.result in
     let span = c.if-from-first.true in
-    applied_whole a.net.now a.gains a.gives a.t4 (get_or a.rows.now a.i []) a.first a.until
+    applied_whole a.net.now a.gains a.gives a.mark (get_or a.rows.now a.i []) a.first a.until
     (omega (arith, leb-true f a.first (and_left (leb f a.first) (leb a.until t) span))) (omega (arith, leb-true a.until t (and_right (leb f a.first) (leb a.until t) span))) _ c.requires.1
     (differs a.gains a.gives c.if-gains-gives.false) c.move_row.ensures
 
 pub returns : goal.returns
 returns c =
     let a = c.args in
-    applied_everywhere a.net.now a.gains a.gives a.t4 (get_or a.rows.now a.i []) a.first a.until _ c.requires.1 c.apply_in_span.ensures
+    applied_everywhere a.net.now a.gains a.gives a.mark (get_or a.rows.now a.i []) a.first a.until _ c.requires.1 c.apply_in_span.ensures

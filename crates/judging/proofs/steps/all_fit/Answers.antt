@@ -21,7 +21,7 @@ loop-s-preserved c =
       fit_more
           (λ j. step_fits (get_or a.ceder.now j 0) (get_or a.acquirer.now j 0) (get_or a.ps.now j 0) a.ceders a.acquirers)
           a.first b.s _ b.failed
-          (c.fits2.ensures ∙ ap (λ p. step_fits (get_or a.ceder.now b.s 0) (get_or a.acquirer.now b.s 0) p a.ceders a.acquirers) c.wide.ensures.0)
+          (c.fits.ensures ∙ ap (λ p. step_fits (get_or a.ceder.now b.s 0) (get_or a.acquirer.now b.s 0) p a.ceders a.acquirers) c.wide.ensures.0)
           b.invariant.1,
     )
 

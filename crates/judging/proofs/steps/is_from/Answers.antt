@@ -27,4 +27,4 @@ module _ (w least x more : ℕ) (e : (w + least) % 4294967296 ≡ x) (fits : w <
       (λ t. wraps (ltb-false (w + least) 4294967296 t))
 
 pub returns : goal.returns
-returns c = from_is _ _ _ _ c.wrapping_sub_u32.ensures (omega arith) c.requires.0 c.requires.1
+returns c = from_is _ _ _ _ c.wrapping_sub_u32.ensures.value (omega arith) c.requires.0 c.requires.1

@@ -6,5 +6,5 @@ pub returns : goal.returns
 returns c =
     let here = c.eight in
     let there = c.eight-2 in
-    eight_flag c.args.s.now c.args.t.now c.args.a c.args.i _ _ here.ensures.1 there.ensures.1
-    c.requires.0 c.requires.1 here.ensures.0 there.ensures.0
+    eight_flag c.args.s.now c.args.t.now c.args.a c.args.i _ _ here.ensures.by_index there.ensures.by_index
+    c.requires.0 c.requires.1 here.ensures.value there.ensures.value

@@ -1,4 +1,5 @@
 -- Each way through the code is one of the tests of a text's parts.
+use mathlib.Core.Bool.{not}
 use mathlib.Core.Path.{sym, ap, ◌∙◌}
 use Rattle.notification.specs.Forms.{is_category, six_bytes}
 use Rattle.lists.proofs.Parts.{rest_all}
@@ -15,13 +16,13 @@ returns-then-n-gt49 c =
 
 pub returns-then-not-parted-is_code : goal.returns-then-not-parted-is_code
 returns-then-not-parted-is_code c =
-    c.no_key-then-not-parted-is_code.ensures ∙ read_wrong c.args.by c.args.s.now _ _ _ c.is_code.ensures c.is_code-2.ensures (c.is_category.ensures ∙ ap is_category (rest_all 43 c.args.s.now)) c.if-not-parted-is_code.true
+    c.no_key-then-not-parted-is_code.ensures ∙ read_wrong c.args.by c.args.s.now _ _ _ c.is_code.ensures c.is_code-2.ensures (c.is_category.ensures ∙ ap is_category (rest_all 43 c.args.s.now)) (ap not c.if-not-parted-is_code.true)
 
 pub returns-in-Number : goal.returns-in-Number
 returns-in-Number c =
-    read_key c.args.by c.args.s.now _ _ _ c.is_code.ensures c.is_code-2.ensures (c.is_category.ensures ∙ ap is_category (rest_all 43 c.args.s.now)) c.if-n-lt48.false c.if-n-gt49.false c.if-not-parted-is_code.false _ (sym c.day_of-day.ensures ∙ c.in-Number.is)
+    read_key c.args.by c.args.s.now _ _ _ c.is_code.ensures c.is_code-2.ensures (c.is_category.ensures ∙ ap is_category (rest_all 43 c.args.s.now)) c.if-n-lt48.false c.if-n-gt49.false (ap not c.if-not-parted-is_code.false) _ (sym c.day_of-day.ensures ∙ c.in-Number.is)
     _ _ _ c.sixteen.ensures c.sixteen-in-Number.ensures (c.six.ensures ∙ ap six_bytes (rest_all 43 c.args.s.now))
 
 pub returns-in-NoDay : goal.returns-in-NoDay
 returns-in-NoDay c =
-    c.no_key-in-NoDay.ensures ∙ read_no_day c.args.by c.args.s.now _ _ _ c.is_code.ensures c.is_code-2.ensures (c.is_category.ensures ∙ ap is_category (rest_all 43 c.args.s.now)) c.if-n-lt48.false c.if-n-gt49.false c.if-not-parted-is_code.false (sym c.day_of-day.ensures ∙ c.in-NoDay.is)
+    c.no_key-in-NoDay.ensures ∙ read_no_day c.args.by c.args.s.now _ _ _ c.is_code.ensures c.is_code-2.ensures (c.is_category.ensures ∙ ap is_category (rest_all 43 c.args.s.now)) c.if-n-lt48.false c.if-n-gt49.false (ap not c.if-not-parted-is_code.false) (sym c.day_of-day.ensures ∙ c.in-NoDay.is)

@@ -1,5 +1,6 @@
 -- A name is a key between its marks.
-use mathlib.Core.Path.{◌∙◌}
+use mathlib.Core.Bool.{not}
+use mathlib.Core.Path.{ap, ◌∙◌}
 use Prim.Native.Nat.{◌-◌}
 use native.Mathlib.Omega.{arith}
 use lib.ListN.{length}
@@ -13,10 +14,10 @@ pub returns-then-not-is_marked : goal.returns-then-not-is_marked
 returns-then-not-is_marked c =
     let name = c.args.name.now in
     let h = c.if-n-lt8.false in
-    c.no_key-then-not-is_marked.ensures ∙ name_unmarked name (length name - 4) h (omega arith) _ c.is_marked.ensures c.if-not-is_marked.true
+    c.no_key-then-not-is_marked.ensures ∙ name_unmarked name (length name - 4) h (omega arith) _ c.is_marked.ensures (ap not c.if-not-is_marked.true)
 
 pub returns : goal.returns
 returns c =
     let name = c.args.name.now in
     let h = c.if-n-lt8.false in
-    name_marked name (length name - 4) h (omega arith) _ _ c.is_marked.ensures c.if-not-is_marked.false c.key_in.ensures
+    name_marked name (length name - 4) h (omega arith) _ _ c.is_marked.ensures (ap not c.if-not-is_marked.false) c.key_in.ensures

@@ -17,18 +17,18 @@ module _ (c : After-byte_from-end) where
 
 pub returns-then-t-ne0 : goal.returns-then-t-ne0
 returns-then-t-ne0 c =
-    let a = c.args in (
-      λ steps powers. sym (lines_stay steps (with_powers a.t powers) (lines_in (drop a.from a.body.now)) c.if-t-ne0.true c.requires.1),
-      c.rest_start-at.ensures,
-    )
+    let a = c.args in record {
+      by_index = λ steps powers. sym (lines_stay steps (with_powers a.t powers) (lines_in (drop a.from a.body.now)) c.if-t-ne0.true c.requires.1);
+      at_value = c.rest_start-at.ensures;
+    }
 
 pub returns-then-body-end : goal.returns-then-body-end
 returns-then-body-end c =
     let a = c.args in
-    let none = lines_over a.body.now a.from _ (ended (goal.at.returns-then-body-end c).After-byte_from-end) c.if-body-end.true in (
-      λ steps powers. none_taken steps (with_powers a.t powers) (lines_in (drop a.from a.body.now)) none,
-      c.rest_start-at.ensures,
-    )
+    let none = lines_over a.body.now a.from _ (ended (goal.at.returns-then-body-end c).After-byte_from-end) c.if-body-end.true in record {
+      by_index = λ steps powers. none_taken steps (with_powers a.t powers) (lines_in (drop a.from a.body.now)) none;
+      at_value = c.rest_start-at.ensures;
+    }
 
 pub slice_bounds-other_header-count : goal.slice_bounds-other_header-count
 slice_bounds-other_header-count c = omega (arith, (ended (goal.at.slice_bounds-other_header-count c).After-byte_from-end).after)
@@ -38,8 +38,8 @@ slice_bounds-other_header-start c = omega (arith, (ended (goal.at.slice_bounds-o
 
 pub returns : goal.returns
 returns c =
-    let a = c.args in (
-      other_taken a.body.now a.from _ (ended (goal.at.returns c).After-byte_from-end) c.if-body-end.false a.t c.other_header.result
-          c.if-t-ne0.false c.other_header.ensures,
-      c.rest_start-at.ensures,
-    )
+    let a = c.args in record {
+      by_index = other_taken a.body.now a.from _ (ended (goal.at.returns c).After-byte_from-end) c.if-body-end.false a.t c.other_header.result
+          c.if-t-ne0.false c.other_header.ensures;
+      at_value = c.rest_start-at.ensures;
+    }

@@ -3,7 +3,6 @@ use mathlib.Core.Path.{refl}
 use Prim.Native.Nat.{◌+◌, ◌≤◌}
 use native.Mathlib.Omega.{arith}
 use lib.ListN.{length}
-use borrow.Author.Tests.{not-false}
 use Rattle.reader.specs.Walking.{six_at}
 use Rattle.reader.proofs.Marking.{line_says_lem}
 use Rattle.reader.proofs.marks.good_line.Goals as goal
@@ -37,6 +36,6 @@ bounds-s-p-6 c = omega (arith, roomy (goal.at.bounds-s-p-6 c).Else-room-a)
 pub returns : goal.returns
 returns c =
     let x = c.args in
-    line_says_lem x.s.now x.a (six_at x.t.now x.i) (six_at x.t.now (x.i + 6)) _ _ _ c.Tail-of.result c.twelve.ensures.1
-    (c.twelve.ensures.0 (not-false c.twelve.result c.if-not-twelve.false))
-    refl refl refl c.Tail-of.ensures
+    line_says_lem x.s.now x.a (six_at x.t.now x.i) (six_at x.t.now (x.i + 6)) _ _ _ c.tail_of.result c.twelve.ensures.by_index
+    (c.twelve.ensures.a_value c.if-not-twelve.false)
+    refl refl refl c.tail_of.ensures

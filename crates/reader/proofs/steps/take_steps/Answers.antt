@@ -19,10 +19,10 @@ pub returns-then-body-end : goal.returns-then-body-end
 returns-then-body-end c =
     let h = c.if-body-end.true in
     let g = c.good_run-run in
-    let a = c.args in (
-      sym (c.loop-run.invariant.1 ∙ (g.ensures.kept ∙ take_none a.steps a.body.now g.result.at c.byte_from-end.result (ended (goal.at.returns-then-body-end c).After-byte_from-end) _ h)),
-      omega (arith, c.loop-run.invariant.2, g.ensures.rest, whole_over a.body.now g.result.at c.byte_from-end.result (ended (goal.at.returns-then-body-end c).After-byte_from-end) h),
-    )
+    let a = c.args in record {
+      powers_after = sym (c.loop-run.invariant.1 ∙ (g.ensures.kept ∙ take_none a.steps a.body.now g.result.at c.byte_from-end.result (ended (goal.at.returns-then-body-end c).After-byte_from-end) _ h));
+      at_value = omega (arith, c.loop-run.invariant.2, g.ensures.rest, whole_over a.body.now g.result.at c.byte_from-end.result (ended (goal.at.returns-then-body-end c).After-byte_from-end) h);
+    }
 
 pub slice_bounds-take_step-count : goal.slice_bounds-take_step-count
 slice_bounds-take_step-count c = omega (arith, (ended (goal.at.slice_bounds-take_step-count c).After-byte_from-end).after, (ended (goal.at.slice_bounds-take_step-count c).After-byte_from-end).within)

@@ -24,10 +24,10 @@ slice_bounds-key_of-end c =
 pub key_of-key-requires : goal.key_of-key-requires
 key_of-key-requires c =
     let x = c.args.self in
-    name_between x.header x.named _ (header_long x _ c.well_formed.0) c.least-n.ensures c.if-self-lt-SHORTEST_HEADER.left
+    name_between x.header x.named _ (header_long x _ c.well_formed.0) c.least-n.ensures c.if-self-lt-SHORTEST_HEADER.false
 
 pub returns : goal.returns
 returns c =
-    ended_lines c.args.self (header_long c.args.self _ c.well_formed.0) (line_long c.args.self _ c.well_formed.0) c.if-self-lt-SHORTEST_HEADER.left _ _ _ _
+    ended_lines c.args.self (header_long c.args.self _ c.well_formed.0) (line_long c.args.self _ c.well_formed.0) c.if-self-lt-SHORTEST_HEADER.false _ _ _ _
     c.if-self.false
     c.least-n.ensures c.least.ensures c.key_of-key.ensures c.conclude.ensures

@@ -22,8 +22,8 @@ pub returns-then-piece-end : goal.returns-then-piece-end
 returns-then-piece-end c =
     let a = c.args in
     line_grown a.self a.total a.piece.now c.whole_line-whole.result.text c.without_last-line.result c.byte_from-end.result
-    c.whole_line-whole.result.length c.byte_from-end.ensures c.if-piece-end.true c.whole_line-whole.ensures.0
-    c.whole_line-whole.ensures.1 c.without_last-line.ensures
+    c.whole_line-whole.result.length c.byte_from-end.ensures c.if-piece-end.true c.whole_line-whole.ensures.text_value
+    c.whole_line-whole.ensures.length_value c.without_last-line.ensures
 
 pub slice_bounds-header-end : goal.slice_bounds-header-end
 slice_bounds-header-end c =
@@ -37,11 +37,11 @@ slice_bounds-take_lines-end c =
 
 pub slice_bounds-text-end : goal.slice_bounds-text-end
 slice_bounds-text-end c =
-    text_inside c.whole_line-whole.result.text (gone (goal.at.slice_bounds-text-end c).After-whole_line-whole) c.whole_line-whole.result.length c.whole_line-whole.ensures.0 c.whole_line-whole.ensures.1.0
+    text_inside c.whole_line-whole.result.text (gone (goal.at.slice_bounds-text-end c).After-whole_line-whole) c.whole_line-whole.result.length c.whole_line-whole.ensures.text_value c.whole_line-whole.ensures.length_value.0
 
 pub slice_bounds-take_lines-end-2 : goal.slice_bounds-take_lines-end-2
 slice_bounds-take_lines-end-2 c =
-    text_count c.whole_line-whole.result.text (gone (goal.at.slice_bounds-take_lines-end-2 c).After-whole_line-whole) c.whole_line-whole.result.length c.whole_line-whole.ensures.0 c.whole_line-whole.ensures.1.0
+    text_count c.whole_line-whole.result.text (gone (goal.at.slice_bounds-take_lines-end-2 c).After-whole_line-whole) c.whole_line-whole.result.length c.whole_line-whole.ensures.text_value c.whole_line-whole.ensures.length_value.0
 
 pub take_lines-run-requires : goal.take_lines-run-requires
 take_lines-run-requires c =
@@ -58,6 +58,6 @@ returns c =
     let a = c.args in
     line_ended a.self (header_long a.self _ c.well_formed.0) _ _ c.least-n.ensures c.least.ensures a.total a.piece.now
     c.whole_line-whole.result.text
-    c.byte_from-end.result c.whole_line-whole.result.length c.byte_from-end.ensures c.whole_line-whole.ensures.0 _ _
+    c.byte_from-end.result c.whole_line-whole.result.length c.byte_from-end.ensures c.whole_line-whole.ensures.text_value _ _
     c.if-piece-end.false
-    c.take_lines-run.ensures.0 c.walk.ensures
+    c.take_lines-run.ensures.powers_after c.walk.ensures
