@@ -8,7 +8,7 @@ use mathlib.Core.Path.{◌≡◌, sym, ◌∙◌}
 use mathlib.Core.List.{List, ◌++◌}
 use Prim.Native.Nat.{ℕ, ◌≤◌}
 use native.Mathlib.Omega.{arith}
-use lib.ListN.{length, take, drop, length-map}
+use lib.ListN.{length, take, drop}
 use Rattle.refusals.specs.declared.Refusal.{Refusal}
 use Rattle.refusals.specs.declared.Verdict.{Verdict}
 use Rattle.refusals.specs.declared.Verdict.TheVariants.{Pass}
@@ -78,9 +78,7 @@ six_and_fifty : {n : Notification} {a b a' b' : List ℕ} {w : Written} → Wrot
     (length n.key.category ≡ 6) × (length n.powers ≡ places)
 six_and_fifty (wrote κs x w s g e) =
     let types = g.0.1.1 in
-    let six = sym (length-map x.0.key.category (λ c. c)) ∙ types.0.1.1.1.1.0.1.0.1 in
-    let fifty = sym (length-map x.0.powers (λ c. c)) ∙ types.1.1.0.1.0.1 in
-    (six, fifty)
+    (types.0.1.1.1.1.0.1.0.1, types.1.1.0.1.0.1)
 
 -- ---- one buffer after a pass
 

@@ -3,6 +3,7 @@ use borrow.Fn.Kinds
 use contract.Lifetimes
 use denote.Array.{Array, array_val, each}
 use denote.Laws.{Is}
+use denote.MutBor.{MutBor}
 use denote.Plain.{UInt}
 use denote.Ref.{Bor}
 use denote.Shadow.{shadow}
@@ -43,6 +44,10 @@ lent s = record { ref_ptr = (0, 0); now = s }
 abbrev no_lifetimes : Lifetimes.Lfts 2
 no_lifetimes = ([], ([], tt))
 
+-- the same, lent to be written
+abbrev lent_mut : List ℕ → MutBor (List ℕ)
+lent_mut s = record { ref_ptr = (0, 0); ghost_name = 0; now = s }
+
 -- ---- a notification that its types admit
 
 fits_each : (w : Width) (xs : List ℕ) → every (λ x. ltb x (2 ^ bits w)) xs ≡ true → shadow (each ℕ (UInt w).own_val xs (map (vint w) xs))
@@ -81,7 +86,7 @@ name_room = replicate 57 0
 abbrev body_room : List ℕ
 body_room = replicate 1351 0
 
-arguments_fit : Kinds.GoodsP no_lifetimes write-kinds.ps (note, (lent name_room, (lent body_room, tt)))
+arguments_fit : Kinds.GoodsP no_lifetimes write-kinds.ps (note, (lent_mut name_room, (lent_mut body_room, tt)))
 arguments_fit = (note_fits, ((omega arith, omega arith), ((omega arith, omega arith), tt)))
 
 -- ---- it is written, and read
@@ -116,7 +121,7 @@ pub is_written : Wrote note name_room body_room (Lengths (length name) (length b
 unfolding written
 is_written =
     let pass = passes_fit note name body can_be_written 57 1351 name_fits body_fits in
-    wrote no_lifetimes (note, (lent name_room, (lent body_room, tt))) _ (note, (lent name_after, (lent body_after, tt))) arguments_fit
+    wrote no_lifetimes (note, (lent_mut name_room, (lent_mut body_room, tt))) _ (note, (lent_mut name_after, (lent_mut body_after, tt))) arguments_fit
     (λ asked. record {
       answers = sym (answers_fit note name body can_be_written 57 1351 name_fits body_fits);
       its_name = rw pass;

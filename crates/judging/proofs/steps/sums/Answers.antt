@@ -20,8 +20,8 @@ loop-s-preserved c =
       omega arith,
       length-set b.sums _ _ ∙ b.invariant.1,
       store_each
-          (λ (j x : ℕ). j < b.s → x ≡ get_or a.net j 0 + get_or a.t2 j 0)
-          (λ (j x : ℕ). j < b.s + 1 → x ≡ get_or a.net j 0 + get_or a.t2 j 0)
+          (λ (j x : ℕ). j < b.s → x ≡ get_or a.net j 0 + get_or a.ps j 0)
+          (λ (j x : ℕ). j < b.s + 1 → x ≡ get_or a.net j 0 + get_or a.ps j 0)
           b.sums b.s _ (omega arith) b.invariant.2
           (λ j x ne f l. f (omega arith))
           (λ l. omega arith),

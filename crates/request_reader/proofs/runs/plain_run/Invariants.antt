@@ -1,0 +1,11 @@
+-- `runs::plain_run` meets its contract: as long as the loop runs, what is kept now and the tokens from here on say what they said at first.
+use Prim.Native.Nat.{◌-◌}
+use Rattle.request_reader.proofs.RunLoops.{RunInv}
+use Rattle.request_reader.proofs.runs.plain_run.Given as goal
+
+abbrev pub invariant-loop-k : goal.invariant-loop-k
+invariant-loop-k l =
+    RunInv l.steps l.initial.k l.stop l.s l.from (record { tally = l.t; powers = l.initial.powers }) l.k l.i l.at l.powers
+
+abbrev pub decreases-loop-k : goal.decreases-loop-k
+decreases-loop-k l = l.stop - l.k
