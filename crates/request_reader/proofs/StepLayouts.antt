@@ -45,10 +45,6 @@ module _ (s : List ℕ) (b : ℕ) (m : is_mark b ≡ true) (name : List ℕ) (q 
       (passed_on (name ∷ []) ((58 ∷ []) ∷ []) s (mark + 1) (text + n) from named
       (passed_on ((58 ∷ []) ∷ []) [] s (text + n) (colon + 1) from closed (v4 closed.within)))
 
--- where no layout was found, nothing is claimed of one
-pub no_claims : {A B : Type 0} (regular : Bool) → regular ≡ false → (regular ≡ true → A) × (regular ≡ true → B)
-no_claims regular e = (λ r. true_false regular r e, λ r. true_false regular r e)
-
 -- ---- a step by its own places
 
 -- both labels stand there, and then the digits say what the step does

@@ -3,6 +3,7 @@ use mathlib.Core.Path.{refl, sym, ◌∙◌}
 use mathlib.Core.Bool.{false≢true}
 use Prim.Native.Nat.{◌*◌}
 use native.Mathlib.Omega.{arith}
+use borrow.Author.Tests.{not-false}
 use Rattle.request_reader.specs.Steps.{label_list}
 use Rattle.request_reader.proofs.RunStarts.{may_run, listed_entries, listed_next}
 use Rattle.request_reader.proofs.StepLayouts.{own_front, laid_rooms}
@@ -46,7 +47,7 @@ returns-then-not-layout c =
 pub own_front-front-requires : goal.own_front-front-requires
 own_front-front-requires c =
     let a = c.args in
-    let regular = c.if-not-layout.false in
+    let regular = (not-false _ c.if-not-layout.false) in
     let rooms = laid_rooms a.s.now a.at c.layout_at-layout.result (c.layout_at-layout.ensures.laid_out regular) in
     let half = c.half_hours in
     let h = half.ensures.0 in
@@ -67,7 +68,7 @@ overflow_add-result c =
 pub returns-in-Is : goal.returns-in-Is
 returns-in-Is c =
     let a = c.args in
-    let laid = c.layout_at-layout.ensures.laid_out c.if-not-layout.false in
+    let laid = c.layout_at-layout.ensures.laid_out (not-false _ c.if-not-layout.false) in
     let half = c.half_hours in
     let h = half.ensures.0 in
     let b = c.if-run_end-k.false in
