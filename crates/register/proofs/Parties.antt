@@ -73,7 +73,7 @@ contract_is h cols loads i d k e r er =
 -- ---- the places
 
 pub acquirer_length : (n : Notification) (vs : List Val) → Is notification.the_row n vs → length n.key.acquirer ≡ 16
-acquirer_length n vs p = sym (length-map n.key.acquirer (λ v. v)) ∙ p.1.1.0.1.1.1.0.1.0.1
+acquirer_length n vs p = p.1.1.0.1.1.1.0.1.0.1
 
 pub placed : (h : Head) (cols : Columns) (loads : LoadColumns) (submitter : List ℕ) (n : Notification) (c a by z : ℕ) →
     c ≡ actor_at (actors_in h.actors) n.key.ceder → a ≡ actor_at (actors_in h.actors) n.key.acquirer →

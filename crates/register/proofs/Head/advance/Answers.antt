@@ -15,7 +15,7 @@ pub returns-in-Refused : goal.returns-in-Refused
 unfolding verdict_of view
 returns-in-Refused c =
     let a = c.args in
-    let v = advanced_refused a.self.clock (moment a.day a.minute) _ (sym c.in-Refused.is ∙ c.advanced_moved.ensures) in
+    let v = advanced_refused a.self.clock (moment a.day a.minute) _ (sym c.in-Refused.is ∙ c.advanced-moved.ensures) in
     λ columns loads.
     ap (λ (y : Reply). seen (lent y.head columns loads) y.answer) c.refused.ensures
     ∙ does_refused (lent a.self columns loads) (advance a.day a.minute) _ _ (sym v) refl
@@ -24,7 +24,7 @@ pub returns-in-Moved : goal.returns-in-Moved
 unfolding verdict_of effect view writes
 returns-in-Moved c =
     let a = c.args in
-    let m = advanced_moved a.self.clock (moment a.day a.minute) _ (sym c.in-Moved.is ∙ c.advanced_moved.ensures) in
+    let m = advanced_moved a.self.clock (moment a.day a.minute) _ (sym c.in-Moved.is ∙ c.advanced-moved.ensures) in
     λ columns loads.
     ap (λ (t : Clock). seen (lent (with_clock a.self t) columns loads) Moved) m.0
     ∙ does_passed (lent a.self columns loads) _ (advance a.day a.minute) Moved _ (sym m.1) refl refl refl

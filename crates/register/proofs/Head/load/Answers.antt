@@ -89,4 +89,4 @@ returns c =
     (head_entries a.self _ c.well_formed.0) (categories_length a.self.categories _ c.well_formed.0.1.1.1.1.0)
     (sym (c.load_verdict-verdict.ensures columns a.approved.now a.loads.now) ∙ c.in_default.is)
     _ _ _ _ c.place.ensures c.place-2.ensures c.load_number-number.ensures c.in_places-row.ensures
-    c.size_u32-arg-2-1.given.0 c.size_u16-arg-2-1.given.0 c.size_rows-arg-2-1.given.0
+    c.told-numbers c.told-approved c.told-loads

@@ -84,7 +84,7 @@ returns c =
     λ loads.
     record_done a.self loads (columns a.statuses.now a.ids.now a.keys.now a.marks.now a.rows.now) a.at a.ps
     _ _ _ _ _ _ _ c.requires.0
-    c.size_u8-arg-2-1.given.0 c.size_u32-arg-2-1.given.0 c.size_u32-arg-4-1.given.0
-    c.size_marks-arg-2-1.given.0 c.size_rows-arg-2-1.given.0
+    c.told-statuses c.told-ids c.told-keys
+    c.told-marks c.told-rows
     own c.first_counted-first.ensures c.steps_of-until.ensures c.status_of-status.ensures
     (c.is_paired-paired.ensures _ _ list) (c.change_all.ensures _ _ list)
