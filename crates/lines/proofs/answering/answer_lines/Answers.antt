@@ -1,6 +1,5 @@
 -- What the lines from here on come to is what all lines come to: each line that is answered is one step of the walk.
 use Rattle.std.proofs.Common.{sym, refl, ◌∙◌, arith}
-use borrow.Author.Tests.{not-false}
 use Rattle.lines.proofs.Names.{named_read, file_told, file_wanted, no_file, given_none}
 use Rattle.lines.proofs.Walks.{begins, ask_answers, engagement_answers, told_by, goes_on, at_room, at_file, at_end, past_end}
 use Rattle.lines.proofs.answering.answer_lines.Goals as goal

@@ -9,14 +9,13 @@ pub key_number-own-requires : goal.key_number-own-requires
 key_number-own-requires c = let j = c.requires.0 in (j.ceder, j.acquirer, j.category, j.day)
 
 pub pass_records-requires : goal.pass_records-requires
-pass_records-requires c =
-    (
-      omega (arith, c.least-n.ensures),
-      omega (arith, c.steps_of-until.ensures, steps_small c.args.at.day),
-      c.start_net.ensures.between,
-      c.start_net-2.ensures.between,
-      c.requires.3,
-    )
+pass_records-requires c = (
+  omega (arith, c.least-n.ensures),
+  omega (arith, c.steps_of-until.ensures, steps_small c.args.at.day),
+  c.start_net.ensures.between,
+  c.start_net-2.ensures.between,
+  c.requires.3,
+)
 
 pub returns : goal.returns
 returns c =

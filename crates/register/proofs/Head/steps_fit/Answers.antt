@@ -31,14 +31,13 @@ pub load_number-requires-2 : goal.load_number-requires-2
 load_number-requires-2 c = let j = c.requires.0 in (j.acquirer, j.category, j.day)
 
 pub step_verdict-verdict-requires : goal.step_verdict-verdict-requires
-step_verdict-verdict-requires c =
-    (
-      omega (arith, c.first_counted.ensures, c.steps_of.ensures, c.requires.0.counted),
-      omega (arith, c.steps_of.ensures, steps_small c.args.at.day),
-      c.approved_of.ensures.1,
-      c.approved_of-2.ensures.1,
-      (c.nets_of-count.ensures.0 []).netted.acquirer_high,
-    )
+step_verdict-verdict-requires c = (
+  omega (arith, c.first_counted.ensures, c.steps_of.ensures, c.requires.0.counted),
+  omega (arith, c.steps_of.ensures, steps_small c.args.at.day),
+  c.approved_of.ensures.1,
+  c.approved_of-2.ensures.1,
+  (c.nets_of-count.ensures.0 []).netted.acquirer_high,
+)
 
 pub returns : goal.returns
 returns c =

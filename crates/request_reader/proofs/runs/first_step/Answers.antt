@@ -8,10 +8,10 @@ use Rattle.request_reader.proofs.runs.first_step.Goals as goal
 
 pub returns-then-is_over-steps : goal.returns-then-is_over-steps
 returns-then-is_over-steps c = record {
-      powers_unchanged = λ e. refl;
-      next_step = λ f. absurd (f refl);
-      laid_out = λ r. absurd (false≢true (sym c.no_layout.ensures ∙ r));
-    }
+  powers_unchanged = λ e. refl;
+  next_step = λ f. absurd (f refl);
+  laid_out = λ r. absurd (false≢true (sym c.no_layout.ensures ∙ r));
+}
 
 pub returns-then-t-ne0 : goal.returns-then-t-ne0
 returns-then-t-ne0 c =

@@ -23,8 +23,8 @@ loop-i-preserved c =
     let l = c.loop-i in
     let more = blanks_more c.args.s.now c.args.at l.i c.loop-i-test.true in
     elim c.if-s-i-ne32.branch [
-    | then-s-i-ne32+else-not-is_blank w ↦ more (sym w.is_blank.ensures ∙ w.if-not-is_blank.false) l.invariant
-    | else-s-i-ne32 w ↦ more (ap is_blank w.if-s-i-ne32.false) l.invariant
+      | then-s-i-ne32+else-not-is_blank w ↦ more (sym w.is_blank.ensures ∙ w.if-not-is_blank.false) l.invariant
+      | else-s-i-ne32 w ↦ more (ap is_blank w.if-s-i-ne32.false) l.invariant
     ]
 
 pub returns : goal.returns
