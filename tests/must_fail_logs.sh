@@ -1,22 +1,28 @@
 #!/usr/bin/env bash
-# Every must-fail edit was refused for what it says. A refusal shows nothing where the edit names what its file doesn't import, where no
-# need can be named, or where the prover met a bound of its own: none of the logs that `rt ci` or `rt must-fail` left says so.
+# Every must-fail edit was refused for what it says. A refusal shows nothing where the edit can't be applied or read, where it names what its
+# file doesn't import, where all that fails is a proof that names what the edit took away, or where the prover met a bound of its own:
+# `rt must-fail` says so of none. It tells what `rt ci` and earlier runs of it found, and tries the edits that nobody tried.
 set -euo pipefail
 cd "$(dirname "${BASH_SOURCE[0]}")/.."
+
+said=$(mktemp)
+trap 'rm -f "$said"' EXIT
+status=0
+rt must-fail < /dev/null > "$said" 2>&1 || status=$?
 
 edits=0 wrong=0
 for edit in crates/*/must-fail/*.edit; do
     name=${edit#crates/}
-    log=target/must-fail/${name/must-fail\//}
-    log=${log%.edit}/.log
+    name=${name/must-fail\//}
     edits=$((edits + 1))
-    if [[ ! -s $log ]]; then
-        echo "$edit has no log: run 'rt must-fail' first." >&2
-        wrong=$((wrong + 1))
-    elif ! awk '/is not in scope|can be named from here|met a bound of its own/ { print; bad = 1 } END { exit bad }' "$log" >&2; then
-        echo "$edit was refused for its text, not for the mistake." >&2
-        wrong=$((wrong + 1))
-    fi
+    line=$(awk -v start="rt: must-fail $name: " 'index($0, start) == 1' "$said")
+    case $line in
+        *"is not in scope"* | *"can be named from here"* | *"met a bound of its own"*) ;;
+        "rt: must-fail $name: refused, as it must be: "*) continue ;;
+    esac
+    echo "$edit was not refused for the mistake: ${line:-nothing is said of it}" >&2
+    wrong=$((wrong + 1))
 done
-echo "$edits must-fail edits, $wrong refused for nothing or without a log"
-[[ $edits -gt 0 && $wrong -eq 0 ]]
+if [[ $status -ne 0 ]]; then tail -n 20 "$said" >&2; fi
+echo "$edits must-fail edits, $wrong not refused for the mistake"
+[[ $edits -gt 0 && $wrong -eq 0 && $status -eq 0 ]]
