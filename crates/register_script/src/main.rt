@@ -1,18 +1,21 @@
-// The script program's input and output (document 01, "The script program"): standard input in, a line for each line
-// out. Which lines there are, what they ask and what they are answered is in the crates lines, session and script; here
-// bytes are only moved.
+// The script program (document 01, "The script program"): standard input in, a line for each line out. Which lines there
+// are, what they ask and what they are answered is in the crates lines, session and script; here bytes are only moved.
+// What Rattle has no form for is in c/register_script.c, which is linked with this.
 #![tactic(auto)]
 
 ghost use Rattle.std.specs.Prelude.{◌≤◌};
 
 mod bodies;
 mod input;
+mod names;
 mod output;
 mod pausing;
 mod running;
+mod saying;
 mod trying;
 
 use register::Head;
+use std::process::ExitCode;
 
 // The most bytes that are read at once.
 const BLOCK: usize = 32768;
@@ -25,8 +28,7 @@ const PART: usize = 4096;
 
 // Answers standard input to its end. 0: every answer was written; 1: the answers can't be written; 2: the input can't
 // be read.
-#[unsafe(no_mangle)]
-pub extern "C" fn register_script() -> u32
+fn register_script(rt: &HostRuntime) -> u32
     ensures { result ≤ 2 }
 {
     let fresh = Head::fresh();
@@ -42,6 +44,7 @@ pub extern "C" fn register_script() -> u32
     let mut input = [0u8; BLOCK];
     let mut output = [0u8; WAITING];
     running::run(
+        rt,
         fresh.head,
         &mut statuses,
         &mut ids,
@@ -55,4 +58,8 @@ pub extern "C" fn register_script() -> u32
         &mut input,
         &mut output,
     )
+}
+
+fn main(rt: HostRuntime) -> ExitCode {
+    ExitCode::from(register_script(&rt) as u8)
 }
