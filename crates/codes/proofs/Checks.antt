@@ -2,8 +2,8 @@
 -- of 37. One mistyped character changes that sum by a product of two numbers from 1 to 36, and two neighbours exchanged by one such
 -- number; 37 is prime, so neither is a multiple of it.
 use mathlib.Core.Path.{◌≡◌, refl, sym, ◌∙◌, ap}
-use mathlib.Core.Logic.{◌⊎◌, inl, inr}
-use mathlib.Core.Bool.{Bool, true, false, cond, not, ◌&&◌, ◌||◌}
+use mathlib.Core.Logic.{inl, inr}
+use mathlib.Core.Bool.{Bool, true, cond, not, ◌||◌}
 use mathlib.Core.List.{List}
 use Prim.Native.Nat.{ℕ, suc, ◌+◌, ◌-◌, ◌*◌, ◌%◌, ◌<◌, ◌≤◌}
 use native.Mathlib.Nat.{mul-add, suc-mul, one-mul}
@@ -15,7 +15,7 @@ use Rattle.lists.specs.Tests.{grid}
 use Rattle.lists.specs.Searches.{every}
 use Rattle.lists.specs.Sums.{sum_to}
 use Rattle.lists.proofs.Below.{within}
-use Rattle.lists.proofs.Tests.{by_test, and_left, and_right, or_cases, both_true, true_of}
+use Rattle.lists.proofs.Tests.{by_test, and_right, both_true, true_of}
 use Rattle.lists.proofs.Searches.{every_at}
 use Rattle.lists.proofs.Sums.{sum_update}
 use Rattle.notification.specs.Forms.{is_digit, is_code_byte, is_code}

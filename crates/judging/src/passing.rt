@@ -44,13 +44,13 @@ fn pass_record(
         (columns statuses.now ids keys.now marks.now rows.now)
         own first until i
         (record {
-          ceder = ceder.entry.now;
+          ceder = ceder.old;
           acquirer = acquirer.old;
           places = places.old;
           count = count;
         })
         (record {
-          ceder = ceder.exit.now;
+          ceder = ceder.new;
           acquirer = acquirer.new;
           places = places.new;
           count = result;
@@ -109,8 +109,8 @@ pub fn pass_records(
         × Between acquirer.old base (base + 65535) × (length places.old ≡ 256) }
     ensures { ((ids : List ℕ) → Netted
         (columns statuses.now ids keys.now marks.now rows.now)
-        n own (record { ceder = ceder.entry.now; acquirer = acquirer.old })
-        first until (record { ceder = ceder.exit.now; acquirer = acquirer.new }))
+        n own (record { ceder = ceder.old; acquirer = acquirer.old })
+        first until (record { ceder = ceder.new; acquirer = acquirer.new }))
         × PlacesOf (is_under keys.now own) n result places.new }
 {
     let mut count: u32 = 0;

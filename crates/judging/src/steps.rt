@@ -141,7 +141,7 @@ pub fn step_verdict(
     requires { (first ≤ until) × (until ≤ 50) × (ceders ≤ 65535) × (acquirers ≤ 65535)
         × ((s : ℕ) → s < 50 → slice_index acquirer.now s ≤ most) }
     ensures { result ≡ first_met (net_tests
-        (record { ceder = ceder.entry.now; acquirer = acquirer.now }) ps.now
+        (record { ceder = ceder.now; acquirer = acquirer.now }) ps.now
         ceders acquirers first until) }
 {
     if all_fit(ceder, acquirer, ps, ceders, acquirers, first, until) {

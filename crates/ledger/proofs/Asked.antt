@@ -20,7 +20,6 @@ use Rattle.ledger.specs.Filing.{key_of, ceder_below, acquirer_above, ceder_above
 use Rattle.ledger.specs.Calls.{actor_tests, category_tests, load_ranged, load_tests, verdict_of, effect, step_note, step, file_at}
 use Rattle.ledger.specs.Asking.{engagement_tests, engaged_at, ask_engagement, record_at, record_tests, not_shown, ask_record, in_order, ids_of, history_tests, ask_history, history_in}
 use Rattle.ledger.specs.declared.Engaged.{Engaged}
-use Rattle.ledger.specs.declared.Engaged.TheVariants as Engaged
 use Rattle.ledger.specs.declared.Shown.{Shown}
 use Rattle.ledger.specs.declared.Listed.TheVariants as Listed
 use Rattle.ledger.proofs.Examples.{eic, first, second, third, category, plain_day, short_day, long_day, enters, note_with, note, exchange, three, ceded_on}

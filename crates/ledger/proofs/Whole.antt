@@ -11,8 +11,8 @@ use Rattle.lists.proofs.Sums.{sum_balance, over_swap}
 use Rattle.lists.proofs.Sums.{sum_below, over_places}
 use Rattle.calendar.specs.Steps.{steps_of}
 use Rattle.calendar.specs.Clocks.{counts}
-use Rattle.ledger.specs.Call.{Call, load}
-use Rattle.ledger.specs.Ledger.{Ledger, fresh, actor_at, category_at, loaded, approved, power, acquired, ceded, gained, engagement}
+use Rattle.ledger.specs.Call.{Call}
+use Rattle.ledger.specs.Ledger.{Ledger, fresh, actor_at, category_at, power, acquired, ceded, gained, engagement}
 use Rattle.ledger.specs.Calls.{step, file_at}
 use Rattle.ledger.specs.Asking.{engagement_tests, engaged_at, ask_engagement}
 use Rattle.ledger.specs.Reading.{Event, events, is_among, actors_of, categories_of, clock_of, loaded_of, approved_of, power_of, acquired_of, ceded_of}

@@ -1,5 +1,5 @@
 -- The read-only calls (document 01, "The ledger", "Calls" and "Order"): an actor's own engagement, a record by id, an actor's history.
-use Rattle.std.specs.Prelude.{Bool, cond, not, ◌&&◌, ◌||◌, List, [], ◌∷◌, ◌++◌, map, ℕ, ◌+◌, ltb, eqb, length, get_or, drop, replicate}
+use Rattle.std.specs.Prelude.{Bool, cond, not, ◌&&◌, ◌||◌, List, [], ◌∷◌, ◌++◌, map, ℕ, ltb, eqb, length, get_or, drop, replicate}
 use Rattle.lists.specs.Searches.{place_of}
 use Rattle.lists.specs.Orders.{kept, order_by}
 use Rattle.calendar.specs.Steps.{steps_of}

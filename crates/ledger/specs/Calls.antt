@@ -1,5 +1,5 @@
 -- The calls of demand 3's list (document 01, "The ledger", "Calls" and "Order"): each is its tests in their order, then its effect.
-use Rattle.std.specs.Prelude.{Bool, not, ◌&&◌, List, [], ◌∷◌, ◌++◌, ℕ, suc, ◌+◌, leb, ltb, eqb, length}
+use Rattle.std.specs.Prelude.{Bool, not, ◌&&◌, List, [], ◌∷◌, ◌++◌, ℕ, suc, leb, ltb, eqb, length}
 use Rattle.lists.specs.Searches.{every}
 use Rattle.calendar.specs.Dates.{day_count}
 use Rattle.calendar.specs.Steps.{steps_of}

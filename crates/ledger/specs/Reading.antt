@@ -1,6 +1,6 @@
 -- The reading of a list of calls and answers (document 01, "The list of demand 3"), from arguments and answers alone. Events
 -- stand with the newest first. Nothing here looks at a ledger.
-use Rattle.std.specs.Prelude.{Bool, cond, ◌&&◌, List, [], ◌∷◌, ◌++◌, ℕ, ◌+◌, leb, eqb, get_or}
+use Rattle.std.specs.Prelude.{Bool, cond, ◌&&◌, List, [], ◌∷◌, ◌++◌, ℕ, leb, eqb, get_or}
 use Rattle.lists.specs.Searches.{same, some}
 use Rattle.lists.specs.Sums.{sum_over}
 use Rattle.calendar.specs.Clocks.{fresh_clock}

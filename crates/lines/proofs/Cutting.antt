@@ -1,5 +1,5 @@
 -- The lines of an input, by its first LF; and that of a line that is too long the first 513 bytes say as much as all of it.
-use Rattle.std.proofs.Common.{◌≡◌, ℕ, suc, ◌+◌, ◌<◌, Bool, true, false, eqb, leb, List, [], ◌∷◌, ◌++◌, length, take, sym, refl, ap, ◌∙◌, append_assoc, append-nil, arith, length-append, length-take, take_all, eqb-true, leb-false, leb-true}
+use Rattle.std.proofs.Common.{◌≡◌, ℕ, suc, ◌<◌, Bool, true, false, eqb, leb, List, [], ◌∷◌, ◌++◌, length, take, sym, refl, ap, ◌∙◌, append_assoc, append-nil, arith, length-append, length-take, take_all, eqb-true, leb-false, leb-true}
 use borrow.Author.Tests.{not-true}
 use Rattle.lists.specs.Searches.{every}
 use Rattle.lists.proofs.Tests.{by_test, and_left, and_right, and_true}

@@ -1,5 +1,5 @@
 -- A walk prints the answers of the lines that it passes, each by the ledger as the line before left it, and leaves the others.
-use Rattle.std.proofs.Common.{◌≡◌, ℕ, zero, suc, ◌+◌, ◌-◌, ◌<◌, ◌≤◌, Bool, true, false, eqb, List, [], ◌∷◌, ◌++◌, length, take, drop, sym, refl, ap, ◌∙◌, subst, append_assoc, le_trans, lt_of_le_of_lt, mod-eq_of_lt, add-one, arith, length-append, length-take-le, drop-drop, take_at, eqb-true}
+use Rattle.std.proofs.Common.{◌≡◌, ℕ, zero, suc, ◌+◌, ◌<◌, ◌≤◌, Bool, true, false, eqb, List, [], ◌∷◌, ◌++◌, length, take, drop, sym, refl, ap, ◌∙◌, subst, append_assoc, le_trans, lt_of_le_of_lt, mod-eq_of_lt, add-one, arith, length-append, length-take-le, drop-drop, take_at, eqb-true}
 use lib.Seq.{sets, sets-eq, length-sets}
 use borrow.Author.Tests.{eqb-false}
 use Rattle.lists.proofs.Tests.{by_test, true_false}

@@ -13,7 +13,7 @@ use Rattle.register.specs.View.{held}
 use Rattle.register.specs.View.{lent}
 use Rattle.register.specs.declared.Fresh.{Fresh}
 use Rattle.register.proofs.Runs.{Begun, begun_is}
-use Rattle.register.proofs.Sized.{LoadsSized, RecordsSized, Sized, ref}
+use Rattle.register.proofs.Sized.{LoadsSized, RecordsSized, Sized, ref_mut}
 use Rattle.register.proofs.RunsExist.{fresh_sized}
 use Rattle.script.specs.Spans.{cut}
 use Rattle.lines.specs.Scripts.{lines_of, joined, Files, printed}
@@ -173,7 +173,7 @@ module _ (files : Files) (first : Standing) (long : ℕ) where
 
     is_held : Held s.input s.at s.end (length kept) front
     is_held =
-        holds ([], tt) (ref s.input, (s.at, (s.end, tt))) (length kept) (ref front, (s.at, (s.end, tt))) (λ t. (refl, refl, few_kept.0, few_kept.1))
+        holds ([], tt) (ref_mut s.input, (s.at, (s.end, tt))) (length kept) (ref_mut front, (s.at, (s.end, tt))) (λ t. (refl, refl, few_kept.0, few_kept.1))
 
     front_long : length front ≡ long
     front_long = length-sets s.input 0 kept ∙ x.fit.as_long
@@ -212,7 +212,7 @@ module _ (files : Files) (first : Standing) (long : ℕ) where
         (λ t. rw t (omega arith))
 
     is_ended : Ended front (length kept) end last
-    is_ended = ends ([], tt) (ref front, (length kept, tt)) end (ref last, (length kept, tt)) (λ t. (refl, refl, end_inside))
+    is_ended = ends ([], tt) (ref_mut front, (length kept, tt)) end (ref_mut last, (length kept, tt)) (λ t. (refl, refl, end_inside))
 
     pub closes : Idle bs true
     closes =

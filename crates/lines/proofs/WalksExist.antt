@@ -11,7 +11,7 @@ use Rattle.ledger.specs.declared.Entry.TheVariants.{SevenDays}
 use Rattle.register.specs.View.{Register, held}
 use Rattle.register.specs.Written.{Done, does, does_reading}
 use Rattle.register.proofs.Runs.{did_all}
-use Rattle.register.proofs.Sized.{Sized, ref}
+use Rattle.register.proofs.Sized.{Sized, ref, ref_mut}
 use Rattle.register.proofs.FilingsExist.{reading_seen}
 use Rattle.register.proofs.RunsExist.{next as next-call}
 use Rattle.register.specs.Told.{Told, told, tells}
@@ -193,9 +193,9 @@ module _ (given readable : Bool) (reading : Reading) (input : List ℕ) (r : Reg
       let v = walk readable reading given before (lines_in (drop at input)) in
       let x = v.register in
       goes ([], ([], ([], ([], ([], ([], ([], ([], ([], ([], tt))))))))))
-      (r.head, (ref r.columns.statuses, (ref r.columns.ids, (ref r.columns.keys, (ref r.columns.marks, (ref r.columns.rows, (ref r.loads.keys, (ref r.loads.approved, (ref r.loads.rows, (number, (ref input, (at, (ref output, (out, (given, (readable, (reading, tt)))))))))))))))))
+      (r.head, (ref_mut r.columns.statuses, (ref_mut r.columns.ids, (ref_mut r.columns.keys, (ref_mut r.columns.marks, (ref_mut r.columns.rows, (ref_mut r.loads.keys, (ref_mut r.loads.approved, (ref_mut r.loads.rows, (number, (ref input, (at, (ref_mut output, (out, (given, (readable, (reading, tt)))))))))))))))))
       (record { head = x.head; number = v.number; at = v.at; out = v.out; wants = v.wants })
-      (r.head, (ref x.columns.statuses, (ref x.columns.ids, (ref x.columns.keys, (ref x.columns.marks, (ref x.columns.rows, (ref x.loads.keys, (ref x.loads.approved, (ref x.loads.rows, (number, (ref input, (at, (ref v.output, (out, (given, (readable, (reading, tt)))))))))))))))))
+      (r.head, (ref_mut x.columns.statuses, (ref_mut x.columns.ids, (ref_mut x.columns.keys, (ref_mut x.columns.marks, (ref_mut x.columns.rows, (ref_mut x.loads.keys, (ref_mut x.loads.approved, (ref_mut x.loads.rows, (number, (ref input, (at, (ref_mut v.output, (out, (given, (readable, (reading, tt)))))))))))))))))
       (λ t. (
         ap (λ l. record { register = x; ledger = l; number = v.number; at = v.at; output = v.output; out = v.out; wants = v.wants }) (sym g.good.holds),
         record { reached = λ h. g.reached; room = λ h. g.room; named = g.named },

@@ -1,5 +1,5 @@
 -- Name and body of a notification as they are written (document 01, "The notification file").
-use Rattle.std.specs.Prelude.{◌≡◌, Bool, not, ◌&&◌, ◌||◌, List, [], ◌∷◌, ◌++◌, ℕ, suc, ◌+◌, ◌-◌, ltb, eqb, length, take, drop}
+use Rattle.std.specs.Prelude.{◌≡◌, Bool, not, ◌&&◌, ◌||◌, List, [], ◌∷◌, ◌++◌, ℕ, suc, ltb, eqb, length, take, drop}
 use Rattle.lists.specs.Searches.{every}
 use Rattle.calendar.specs.Dates.{day_count}
 use Rattle.calendar.specs.Texts.{text_of}

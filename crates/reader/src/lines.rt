@@ -49,7 +49,7 @@ fn take_header(t: FileTally, header: &[u8], body: &[u8], from: usize) -> FileRun
     requires { (50 ≤ length header.now) × (length header.now ≤ 51) × (from ≤ length body.now) }
     ensures tally_value { result.tally
         ≡ record {
-          header = headed_by header.entry.now t.header (drop from body.now);
+          header = headed_by header.now t.header (drop from body.now);
           steps = t.steps;
         } }
     ensures body_value { drop result.at body.now

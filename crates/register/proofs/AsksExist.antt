@@ -12,7 +12,7 @@ use Rattle.recording.proofs.TurnNumbers.{ids_only}
 use Rattle.register.specs.View.{Register, view, held}
 use Rattle.register.specs.declared.Head.{Head}
 use Rattle.register.proofs.Runs.{Engages, engages, Shows, shows, Lists, lists}
-use Rattle.register.proofs.Sized.{ref}
+use Rattle.register.proofs.Sized.{ref, ref_mut}
 
 -- an engagement doesn't depend on ids and approved powers
 module _ (h : Head) (cols : Columns) (ls : LoadColumns) (ids approved : List ℕ) where
@@ -94,9 +94,9 @@ unfolding view
 history_exists r actor buffer =
     let x = r.columns in
     lists x.statuses x.marks x.rows r.loads ([], ([], ([], ([], tt))))
-    (r.head, (ref x.ids, (ref x.keys, (ref actor, (ref buffer, tt)))))
+    (r.head, (ref x.ids, (ref x.keys, (ref actor, (ref_mut buffer, tt)))))
     _
-    (r.head, (ref x.ids, (ref x.keys, (ref actor, (ref (history_in (held r) actor buffer), tt)))))
+    (r.head, (ref x.ids, (ref x.keys, (ref actor, (ref_mut (history_in (held r) actor buffer), tt)))))
     (λ t statuses marks rows ls.
     let l = view r.head (columns statuses x.ids x.keys marks rows) ls in
     let ids = history_any r.head x r.loads statuses marks rows ls actor in

@@ -20,7 +20,7 @@ use Rattle.register.specs.Written.{with_clock, with_actors, with_categories, wit
 use Rattle.register.specs.declared.Head.{Head}
 use Rattle.register.proofs.Steps.{does_refused, does_passed, actor_done, category_done, load_done}
 use Rattle.register.proofs.Runs.{Did, did_actor, did_category, did_load, did_advance}
-use Rattle.register.proofs.Sized.{LoadsSized, Sized, ref, Next}
+use Rattle.register.proofs.Sized.{LoadsSized, Sized, ref, ref_mut, Next}
 
 -- ---- calls that are judged by the head alone: the clock, an actor, a category
 
@@ -88,9 +88,9 @@ module _ (r : Register) (actor category : List ℕ) (day most : ℕ) (ps : List 
         answer = y;
         register = lent (with_loads r.head n) r.columns ls;
         did = did_load r.columns ([], ([], ([], ([], ([], ([], tt))))))
-            (r.head, (ref x.keys, (ref x.approved, (ref x.rows, (ref actor, (ref category, (day, (most, (ref ps, tt)))))))))
+            (r.head, (ref_mut x.keys, (ref_mut x.approved, (ref_mut x.rows, (ref actor, (ref category, (day, (most, (ref ps, tt)))))))))
             (record { head = with_loads r.head n; answer = y })
-            (r.head, (ref ls.keys, (ref ls.approved, (ref ls.rows, (ref actor, (ref category, (day, (most, (ref ps, tt))))))))) (λ t. e);
+            (r.head, (ref_mut ls.keys, (ref_mut ls.approved, (ref_mut ls.rows, (ref actor, (ref category, (day, (most, (ref ps, tt))))))))) (λ t. e);
         sized = record { actors = z.actors; categories = z.categories; loads = s; records = z.records };
       }
 

@@ -34,7 +34,7 @@ use Rattle.register.proofs.Filings.{fileable_of}
 use Rattle.register.proofs.Notes.{note_refused, note_passed, reading_refused, reading_passed, reading_does}
 use Rattle.register.proofs.Records.{recorded, record_done}
 use Rattle.register.proofs.Runs.{Did, did_file, did_object}
-use Rattle.register.proofs.Sized.{Sized, ref, Next}
+use Rattle.register.proofs.Sized.{Sized, ref, ref_mut, Next}
 
 -- what is seen of a filing: a head, columns that have their places, the loads as they were lent, and an answer
 pub record Seen (r : Register) (d : Done) : Type 0 where
@@ -186,16 +186,16 @@ module _ (r : Register) (u : List ℕ) where
   next_file name body =
       next_form r u (csv name body) (λ h w y e.
       did_file ([], ([], ([], ([], ([], ([], ([], ([], ([], ([], ([], tt)))))))))))
-      (r.head, (ref x.statuses, (ref x.ids, (ref x.keys, (ref x.marks, (ref x.rows, (ref l.keys, (ref l.approved, (ref l.rows, (ref u, (ref name, (ref body, tt))))))))))))
+      (r.head, (ref_mut x.statuses, (ref_mut x.ids, (ref_mut x.keys, (ref_mut x.marks, (ref_mut x.rows, (ref l.keys, (ref l.approved, (ref l.rows, (ref u, (ref name, (ref body, tt))))))))))))
       (record { head = h; answer = y })
-      (r.head, (ref w.statuses, (ref w.ids, (ref w.keys, (ref w.marks, (ref w.rows, (ref l.keys, (ref l.approved, (ref l.rows, (ref u, (ref name, (ref body, tt))))))))))))
+      (r.head, (ref_mut w.statuses, (ref_mut w.ids, (ref_mut w.keys, (ref_mut w.marks, (ref_mut w.rows, (ref l.keys, (ref l.approved, (ref l.rows, (ref u, (ref name, (ref body, tt))))))))))))
       (λ t. e))
 
   pub next_object : (body : List ℕ) → Sized r → Next r (file SevenDays u (json body))
   next_object body =
       next_form r u (json body) (λ h w y e.
       did_object ([], ([], ([], ([], ([], ([], ([], ([], ([], ([], tt))))))))))
-      (r.head, (ref x.statuses, (ref x.ids, (ref x.keys, (ref x.marks, (ref x.rows, (ref l.keys, (ref l.approved, (ref l.rows, (ref u, (ref body, tt)))))))))))
+      (r.head, (ref_mut x.statuses, (ref_mut x.ids, (ref_mut x.keys, (ref_mut x.marks, (ref_mut x.rows, (ref l.keys, (ref l.approved, (ref l.rows, (ref u, (ref body, tt)))))))))))
       (record { head = h; answer = y })
-      (r.head, (ref w.statuses, (ref w.ids, (ref w.keys, (ref w.marks, (ref w.rows, (ref l.keys, (ref l.approved, (ref l.rows, (ref u, (ref body, tt)))))))))))
+      (r.head, (ref_mut w.statuses, (ref_mut w.ids, (ref_mut w.keys, (ref_mut w.marks, (ref_mut w.rows, (ref l.keys, (ref l.approved, (ref l.rows, (ref u, (ref body, tt)))))))))))
       (λ t. e))

@@ -1,5 +1,5 @@
 -- Who files, for whom, in which category: how many are enrolled, and the tests 20 to 25 by these numbers.
-use mathlib.Core.Path.{◌≡◌, refl, sym, ◌∙◌}
+use mathlib.Core.Path.{◌≡◌, refl, ◌∙◌}
 use mathlib.Core.Bool.{Bool, ◌&&◌}
 use mathlib.Core.List.{List, [], ◌∷◌}
 use Prim.Native.Nat.{ℕ, zero, suc, ◌<◌, min}
@@ -73,7 +73,7 @@ contract_is h cols loads i d k e r er =
 -- ---- the places
 
 pub acquirer_length : (n : Notification) (vs : List Val) → Is notification.the_row n vs → length n.key.acquirer ≡ 16
-acquirer_length n vs p = sym (length-map n.key.acquirer (λ v. v)) ∙ p.1.1.0.1.1.1.0.1.0.1
+acquirer_length n vs p = p.1.1.0.1.1.1.0.1.0.1
 
 pub placed : (h : Head) (cols : Columns) (loads : LoadColumns) (submitter : List ℕ) (n : Notification) (c a by z : ℕ) →
     c ≡ actor_at (actors_in h.actors) n.key.ceder → a ≡ actor_at (actors_in h.actors) n.key.acquirer →

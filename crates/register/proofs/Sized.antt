@@ -1,6 +1,6 @@
 -- A register whose arrays have their places, and what it is that a call can be made on it: there are an answer and a register that meet
 -- what the called function ensures.
-use denote.Ref.{Bor}
+use denote.Ref.{Bor, MutBor}
 use mathlib.Core.Path.{◌≡◌}
 use mathlib.Core.List.{[]}
 use Prim.Native.Nat.{ℕ, ◌<◌}
@@ -35,6 +35,10 @@ pub record Sized (r : Register) : Type 0 where
 -- a reference to a value
 abbrev pub ref : {X : Type 0} → X → Bor X
 ref x = record { ref_ptr = (0, 0); now = x }
+
+-- a reference to a value that may be written
+abbrev pub ref_mut : {X : Type 0} → X → MutBor X
+ref_mut x = record { ref_ptr = (0, 0); ghost_name = 0; now = x }
 
 -- a call that can be made, and what comes of it
 pub record Next (r : Register) (c : Call) : Type 1 where

@@ -173,7 +173,7 @@ impl Head {
         ensures { ((ids : List ℕ) → NettedAt self
             (columns statuses.now ids keys.now marks.now rows.now)
             loads.now ceders acquirers at
-            (record { ceder = ceder.exit.now; acquirer = acquirer.new }))
+            (record { ceder = ceder.new; acquirer = acquirer.new }))
             × UnderListed self.records at keys.now result under.new }
     {
         let day = at.day;

@@ -40,7 +40,9 @@ module _ (line : List ℕ) where
   unfolding advance_line asked
   advance_again end [] = none_again
   advance_again end (d ∷ []) = none_again
-  advance_again end (d ∷ m ∷ []) = known_again end (is_day d && is_number m) _ (λ t. plainly line _ _ refl refl)
+  advance_again end (d ∷ m ∷ []) =
+      known_again end (is_day d && is_number m) (calls (Call.advance (day_in d) (value_of m)))
+      (λ t. plainly line (read_as end (calls (Call.advance (day_in d) (value_of m)))) (calls (Call.advance (day_in d) (value_of m))) refl refl)
   advance_again end (d ∷ m ∷ x ∷ fs) = none_again
 
   module _ (l : List ℕ) (one : length l ≡ 1) where
@@ -50,7 +52,7 @@ module _ (line : List ℕ) where
     enrol_again (x ∷ []) e = none_again
     enrol_again (x ∷ y ∷ []) e = none_again
     enrol_again (x ∷ y ∷ z ∷ []) e =
-        known_again _ (is_day y && is_day z) _
+        known_again (end_of (l ∷ x ∷ y ∷ z ∷ [])) (is_day y && is_day z) _
         (λ t. plainly line _ _ refl (ap (λ (s : List ℕ). calls (Call.enrol_actor s (day_in y) (day_in z))) (first_is line l one x (y ∷ z ∷ []) e)))
     enrol_again (x ∷ y ∷ z ∷ w ∷ fs) e = none_again
 
@@ -75,7 +77,7 @@ module _ (line : List ℕ) where
     engagement_again (x ∷ y ∷ []) e = none_again
     engagement_again (x ∷ y ∷ z ∷ []) e = none_again
     engagement_again (x ∷ y ∷ z ∷ w ∷ []) e =
-        known_again _ (is_day z && is_number w) _
+        known_again (end_of (l ∷ x ∷ y ∷ z ∷ w ∷ [])) (is_day z && is_number w) _
         (λ t. plainly line _ _ refl (ap₂ (λ (s u : List ℕ). engagement s u (day_in z) (value_of w)) (first_is line l one x (y ∷ z ∷ w ∷ []) e) (second_is line l one x y (z ∷ w ∷ []) e)))
     engagement_again (x ∷ y ∷ z ∷ w ∷ v ∷ fs) e = none_again
 
@@ -84,7 +86,7 @@ module _ (line : List ℕ) where
     record_again [] e = none_again
     record_again (x ∷ []) e = none_again
     record_again (x ∷ y ∷ []) e =
-        known_again _ (is_number y) _ (λ t. plainly line _ _ refl (ap (λ (s : List ℕ). record_of s (value_of y)) (first_is line l one x (y ∷ []) e)))
+        known_again (end_of (l ∷ x ∷ y ∷ [])) (is_number y) _ (λ t. plainly line _ _ refl (ap (λ (s : List ℕ). record_of s (value_of y)) (first_is line l one x (y ∷ []) e)))
     record_again (x ∷ y ∷ z ∷ fs) e = none_again
 
     module _ (short : length line ≤ line_most) where
@@ -96,7 +98,7 @@ module _ (line : List ℕ) where
       load_again (x ∷ y ∷ z ∷ []) e = none_again
       load_again (x ∷ y ∷ z ∷ w ∷ []) e = none_again
       load_again (x ∷ y ∷ z ∷ w ∷ p ∷ ps) e =
-          known_again _ (is_day z && is_number w && every is_number (p ∷ ps)) _
+          known_again (end_of (l ∷ x ∷ y ∷ z ∷ w ∷ p ∷ ps)) (is_day z && is_number w && every is_number (p ∷ ps)) _
           (λ t.
           let n = and_right (is_day z && is_number w) (every is_number (p ∷ ps)) t in
           let g = powers_from_lem line l one x y z w (p ∷ ps) e in
@@ -115,13 +117,13 @@ module _ (line : List ℕ) where
       letter_again : (b : ℕ) (fs : List (List ℕ)) → fields_from line start ≡ fs → Again line (read_as (end_of (l ∷ fs)) (by_letter b fs)) (by_letter b fs)
       unfolding by_letter
       letter_again b fs e =
-          either_again _ (eqb b 84) _ _ (advance_again _ fs)
-          (either_again _ (eqb b 65) _ _ (enrol_again fs e)
-          (either_again _ (eqb b 67) _ _ (category_again fs e)
-          (either_again _ (eqb b 76) _ _ (load_again fs e)
-          (either_again _ (eqb b 70) _ _ (file_again fs e)
-          (either_again _ (eqb b 69) _ _ (engagement_again fs e)
-          (either_again _ (eqb b 82) _ _ (record_again fs e) none_again))))))
+          either_again (end_of (l ∷ fs)) (eqb b 84) _ _ (advance_again (end_of (l ∷ fs)) fs)
+          (either_again (end_of (l ∷ fs)) (eqb b 65) _ _ (enrol_again fs e)
+          (either_again (end_of (l ∷ fs)) (eqb b 67) _ _ (category_again fs e)
+          (either_again (end_of (l ∷ fs)) (eqb b 76) _ _ (load_again fs e)
+          (either_again (end_of (l ∷ fs)) (eqb b 70) _ _ (file_again fs e)
+          (either_again (end_of (l ∷ fs)) (eqb b 69) _ _ (engagement_again fs e)
+          (either_again (end_of (l ∷ fs)) (eqb b 82) _ _ (record_again fs e) none_again))))))
 
   fields_again : (fs : List (List ℕ)) → length line ≤ line_most → fields line ≡ fs
       → Again line (read_as (end_of fs) (field (λ letter. by_letter (letter_of letter)) fs)) (field (λ letter. by_letter (letter_of letter)) fs)
@@ -134,7 +136,7 @@ module _ (line : List ℕ) where
 
   line_again : Again line (line_read line) (line_of line)
   unfolding line_read line_of
-  line_again = known_again _ (leb (length line) line_most) _ (λ t. fields_again (fields line) (leb-true (length line) line_most t) refl)
+  line_again = known_again (end_of (fields line)) (leb (length line) line_most) _ (λ t. fields_again (fields line) (leb-true (length line) line_most t) refl)
 
   -- WHAT A LINE READ SAYS is what the line asks
   pub asked_line : asked line (line_read line) ≡ line_of line

@@ -4,7 +4,7 @@ use mathlib.Core.Bool.{Bool, true, false}
 use mathlib.Core.List.{List, [], ◌∷◌, ◌++◌, map, map-append}
 use Prim.Native.Nat.{ℕ, suc, ◌+◌, ◌≤◌, ◌<◌, min}
 use native.Mathlib.Omega.{arith}
-use lib.ListN.{length, get_or, take, set, length-map}
+use lib.ListN.{length, get_or, take, set}
 use lib.Seq.{take-suc-set}
 use mir.Val.{Val}
 use denote.Laws.{Is}
@@ -13,13 +13,11 @@ use Rattle.lists.proofs.Places.{place_map, first_here, first_past, first_none}
 use Rattle.notification.specs.Forms.{category_text}
 use Rattle.ledger.specs.declared.Actor.{Actor}
 use Rattle.ledger.specs.Ledger.{actor_at, category_at}
-use Rattle.ledger.specs.contracts.Actor as actor
 use Rattle.tables.specs.declared.actors.Actors.{Actors}
 use Rattle.tables.specs.declared.categories.Category.{Category}
 use Rattle.tables.specs.declared.categories.Categories.{Categories}
 use Rattle.tables.specs.Tables.{actors_in, categories_in}
 use Rattle.tables.specs.contracts.actors.Actors as actors
-use Rattle.tables.specs.contracts.categories.Category as category
 use Rattle.tables.specs.contracts.categories.Categories as categories
 
 -- ---- lengths

@@ -41,8 +41,7 @@ loop-i-init c =
 pub loop-i-preserved : goal.loop-i-preserved
 loop-i-preserved c =
     let t = c.loop-k in
-    let n = c.least-n.ensures in
-    (
+    let n = c.least-n.ensures in (
       omega arith,
       omega arith,
       omega arith,

@@ -41,8 +41,7 @@ pub loop-run-preserved : goal.loop-run-preserved
 loop-run-preserved c =
     let h = c.if-body-end.false in
     let g = c.good_run-run in
-    let a = c.args in
-    (
+    let a = c.args in (
       omega (arith, h),
       c.loop-run.invariant.1
           ∙ (g.ensures.kept ∙ take_first a.steps a.body.now g.result.at c.byte_from-end.result (ended (goal.at.loop-run-preserved c).After-byte_from-end) _ _ h c.take_step-next.ensures),

@@ -14,8 +14,8 @@ pub loop-j-init : goal.loop-j-init
 loop-j-init c =
     let p = c.args in (
       omega arith,
-      c.size_u8-arg-2-1.given.0,
-      c.size_marks-arg-2-1.given.0,
+      c.told-statuses,
+      c.told-marks,
       (λ ids n l. changed_none p.paired p.clock p.by p.own p.ps
           (columns p.statuses.now ids p.keys.now p.marks.now p.rows.now)),
     )

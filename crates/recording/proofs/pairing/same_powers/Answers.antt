@@ -14,11 +14,11 @@ loop-s-init c = (omega arith, refl)
 pub loop-s-preserved : goal.loop-s-preserved
 loop-s-preserved c =
     let p = c.args in
-    (omega arith, all_next (λ j. eqb (get_or p.t1 j 0) (get_or p.t2 j 0)) _ _ c.loop-s.invariant.1)
+    (omega arith, all_next (λ j. eqb (get_or p.ps j 0) (get_or p.qs j 0)) _ _ c.loop-s.invariant.1)
 
 pub returns : goal.returns
 unfolding same_powers
 returns c =
     let p = c.args in
     let e : c.loop-s.s ≡ 50 = omega arith in
-    c.loop-s.invariant.1 ∙ ap (all_below (λ j. eqb (get_or p.t1 j 0) (get_or p.t2 j 0))) e
+    c.loop-s.invariant.1 ∙ ap (all_below (λ j. eqb (get_or p.ps j 0) (get_or p.qs j 0))) e

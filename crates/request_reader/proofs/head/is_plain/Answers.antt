@@ -1,7 +1,6 @@
 -- `head::is_plain` meets its contract: four texts stand around three codes.
 use mathlib.Core.Bool.{false≢true}
 use native.Mathlib.Omega.{arith}
-use borrow.Author.Tests.{not-false}
 use Rattle.request_reader.proofs.PlainMembers.{around_codes}
 use Rattle.request_reader.proofs.head.is_plain.Goals as goal
 
@@ -25,13 +24,13 @@ bounds-s-127 c = omega (arith, c.if-s-lt128.false)
 
 pub returns : goal.returns
 returns c =
-    around_codes c.args.s.now c.if-s-lt128.left _ _ _ _ _ _ _ _ _
-    c.same_text.ensures (not-false _ c.if-not-same_text.left) (
+    around_codes c.args.s.now c.if-s-lt128.false _ _ _ _ _ _ _ _ _
+    c.same_text.ensures c.if-not-same_text.false (
       c.eight_at.ensures,
       c.eight_at-2.ensures,
       c.eight_at-3.ensures,
       c.eight_at-4.ensures,
-      not-false _ c.if-not-eight_at.left,
+      c.if-not-eight_at.false,
     ) (
       c.eight_at-5.ensures,
       c.eight_at-6.ensures,

@@ -2,7 +2,6 @@
 use mathlib.Core.Path.{refl}
 use Prim.Native.Nat.{◌+◌, ◌-◌}
 use native.Mathlib.Omega.{arith}
-use borrow.Author.Tests.{not-false}
 use Rattle.request_reader.proofs.PlainMembers.{plain_dates}
 use Rattle.request_reader.proofs.head.plain_dates.Goals as goal
 
@@ -21,6 +20,6 @@ returns c =
     let a = c.args in
     let first = c.moment_of-first.ensures in
     let second = c.moment_of-second.ensures in
-    λ h. plain_dates a.s.now a.from (a.from + 84 - a.from) (omega arith) c.if-s-from.left a.category _ refl refl _ _ _
+    λ h. plain_dates a.s.now a.from (a.from + 84 - a.from) (omega arith) c.if-s-from.false a.category _ refl refl _ _ _
     c.same_text.ensures c.same_text-2.ensures c.same_text-3.ensures
-    (not-false _ c.if-not-same_text.left) _ _ first.0 first.1 second.0 second.1 c.if-not-first-second.false
+    c.if-not-same_text.false _ _ first.0 first.1 second.0 second.1 c.if-not-first-second.false

@@ -1,16 +1,17 @@
 -- `layouts::layout_at` meets its contract: a mark, a name and a colon up to each label and up to the power, and nothing is claimed where one of
 -- them is missing.
 use mathlib.Core.Path.{refl, sym, ◌∙◌}
+use mathlib.Core.Bool.{false≢true}
 use Prim.Native.Nat.{◌+◌}
 use native.Mathlib.Omega.{arith}
-use borrow.Author.Tests.{not-false, leb-true}
+use borrow.Author.Tests.{leb-true}
 use Rattle.lists.specs.Searches.{same}
 use Rattle.request.specs.Tokens.{quoted}
 use Rattle.request.specs.Objects.{from_name, until_name, power_name}
 use Rattle.request_reader.specs.Walking.{Passed, is_mark, is_quoted}
 use Rattle.request_reader.specs.Steps.{before_from, before_until, before_power}
 use Rattle.request_reader.proofs.Walks.{mark_inside}
-use Rattle.request_reader.proofs.StepLayouts.{text_inside, named_passed, no_claims}
+use Rattle.request_reader.proofs.StepLayouts.{text_inside, named_passed}
 use Rattle.request_reader.proofs.layouts.layout_at.Goals as goal
 use Rattle.request_reader.proofs.layouts.layout_at.Goals.{After-past_blanks-first, After-past_blanks-power, After-past_blanks-second}
 
@@ -20,28 +21,28 @@ unfolding is_mark is_quoted same
 to_from c =
     let a = c.args in
     named_passed a.s.now 123 refl (quoted from_name) refl 7 refl a.at _ _ _ _ c.past_blanks-open.ensures.past c.past_blanks-open.ensures.passed
-    (sym c.byte_at.ensures ∙ c.if-byte_at-ne123.left)
-    c.past_blanks-debut.ensures.past c.past_blanks-debut.ensures.passed (sym c.stands.ensures ∙ not-false _ c.if-not-stands.left)
+    (sym c.byte_at.ensures ∙ c.if-byte_at-ne123.false)
+    c.past_blanks-debut.ensures.past c.past_blanks-debut.ensures.passed (sym c.stands.ensures ∙ c.if-not-stands.false)
     c.past_blanks-debut_colon.ensures.past c.past_blanks-debut_colon.ensures.passed (sym c.byte_at-2.ensures ∙ c.if-byte_at-ne58.false) c.past_blanks-first.ensures.passed
 
 to_until : (c : After-past_blanks-second) → Passed before_until c.args.s.now (c.past_blanks-first.result + 7) c.past_blanks-second.result
 unfolding is_mark is_quoted same
 to_until c =
     named_passed c.args.s.now 44 refl (quoted until_name) refl 5 refl _ _ _ _ _ c.past_blanks-fin_comma.ensures.past c.past_blanks-fin_comma.ensures.passed
-    (sym c.byte_at-3.ensures ∙ c.if-byte_at-ne44.left)
-    c.past_blanks-fin.ensures.past c.past_blanks-fin.ensures.passed (sym c.stands-2.ensures ∙ not-false _ c.if-not-stands-2.left)
+    (sym c.byte_at-3.ensures ∙ c.if-byte_at-ne44.false)
+    c.past_blanks-fin.ensures.past c.past_blanks-fin.ensures.passed (sym c.stands-2.ensures ∙ c.if-not-stands-2.false)
     c.past_blanks-fin_colon.ensures.past c.past_blanks-fin_colon.ensures.passed (sym c.byte_at-4.ensures ∙ c.if-byte_at-ne58-2.false) c.past_blanks-second.ensures.passed
 
 to_power : (c : After-past_blanks-power) → Passed before_power c.args.s.now (c.past_blanks-second.result + 7) c.past_blanks-power.result
 unfolding is_mark is_quoted same
 to_power c =
     named_passed c.args.s.now 44 refl (quoted power_name) refl 11 refl _ _ _ _ _ c.past_blanks-power_comma.ensures.past c.past_blanks-power_comma.ensures.passed
-    (sym c.byte_at-5.ensures ∙ c.if-byte_at-ne44-2.left)
-    c.past_blanks-puissance.ensures.past c.past_blanks-puissance.ensures.passed (sym c.stands-3.ensures ∙ not-false _ c.if-not-stands-3.left)
+    (sym c.byte_at-5.ensures ∙ c.if-byte_at-ne44-2.false)
+    c.past_blanks-puissance.ensures.past c.past_blanks-puissance.ensures.passed (sym c.stands-3.ensures ∙ c.if-not-stands-3.false)
     c.past_blanks-power_colon.ensures.past c.past_blanks-power_colon.ensures.passed (sym c.byte_at-6.ensures ∙ c.if-byte_at-ne58-3.false) c.past_blanks-power.ensures.passed
 
 pub returns-then-byte_at-ne123 : goal.returns-then-byte_at-ne123
-returns-then-byte_at-ne123 c = record { laid_out = (no_claims _ c.no_layout-none.ensures).0; power_in_bounds = (no_claims _ c.no_layout-none.ensures).1 }
+returns-then-byte_at-ne123 c = record { laid_out = λ e. absurd (false≢true (sym c.no_layout-none.ensures ∙ e)); power_in_bounds = λ e. absurd (false≢true (sym c.no_layout-none.ensures ∙ e)) }
 
 pub overflow_add-open : goal.overflow_add-open
 unfolding is_mark
@@ -54,7 +55,7 @@ overflow_add-open c =
     )
 
 pub returns-then-not-stands : goal.returns-then-not-stands
-returns-then-not-stands c = record { laid_out = (no_claims _ c.no_layout-none.ensures).0; power_in_bounds = (no_claims _ c.no_layout-none.ensures).1 }
+returns-then-not-stands c = record { laid_out = λ e. absurd (false≢true (sym c.no_layout-none.ensures ∙ e)); power_in_bounds = λ e. absurd (false≢true (sym c.no_layout-none.ensures ∙ e)) }
 
 pub overflow_add-debut : goal.overflow_add-debut
 unfolding is_quoted same
@@ -67,7 +68,7 @@ overflow_add-debut c =
     )
 
 pub returns-then-byte_at-ne58 : goal.returns-then-byte_at-ne58
-returns-then-byte_at-ne58 c = record { laid_out = (no_claims _ c.no_layout-none.ensures).0; power_in_bounds = (no_claims _ c.no_layout-none.ensures).1 }
+returns-then-byte_at-ne58 c = record { laid_out = λ e. absurd (false≢true (sym c.no_layout-none.ensures ∙ e)); power_in_bounds = λ e. absurd (false≢true (sym c.no_layout-none.ensures ∙ e)) }
 
 pub overflow_add-debut_colon : goal.overflow_add-debut_colon
 unfolding is_mark
@@ -83,13 +84,13 @@ pub is_five-requires : goal.is_five-requires
 is_five-requires c = (to_from c).within
 
 pub returns-then-not-is_five : goal.returns-then-not-is_five
-returns-then-not-is_five c = record { laid_out = (no_claims _ c.no_layout-none.ensures).0; power_in_bounds = (no_claims _ c.no_layout-none.ensures).1 }
+returns-then-not-is_five c = record { laid_out = λ e. absurd (false≢true (sym c.no_layout-none.ensures ∙ e)); power_in_bounds = λ e. absurd (false≢true (sym c.no_layout-none.ensures ∙ e)) }
 
 pub overflow_add-first : goal.overflow_add-first
 overflow_add-first c = omega (arith, c.requires, (to_from (goal.at.overflow_add-first c).After-past_blanks-first).within)
 
 pub returns-then-byte_at-ne44 : goal.returns-then-byte_at-ne44
-returns-then-byte_at-ne44 c = record { laid_out = (no_claims _ c.no_layout-none.ensures).0; power_in_bounds = (no_claims _ c.no_layout-none.ensures).1 }
+returns-then-byte_at-ne44 c = record { laid_out = λ e. absurd (false≢true (sym c.no_layout-none.ensures ∙ e)); power_in_bounds = λ e. absurd (false≢true (sym c.no_layout-none.ensures ∙ e)) }
 
 pub overflow_add-fin_comma : goal.overflow_add-fin_comma
 unfolding is_mark
@@ -102,7 +103,7 @@ overflow_add-fin_comma c =
     )
 
 pub returns-then-not-stands-2 : goal.returns-then-not-stands-2
-returns-then-not-stands-2 c = record { laid_out = (no_claims _ c.no_layout-none.ensures).0; power_in_bounds = (no_claims _ c.no_layout-none.ensures).1 }
+returns-then-not-stands-2 c = record { laid_out = λ e. absurd (false≢true (sym c.no_layout-none.ensures ∙ e)); power_in_bounds = λ e. absurd (false≢true (sym c.no_layout-none.ensures ∙ e)) }
 
 pub overflow_add-fin : goal.overflow_add-fin
 unfolding is_quoted same
@@ -115,7 +116,7 @@ overflow_add-fin c =
     )
 
 pub returns-then-byte_at-ne58-2 : goal.returns-then-byte_at-ne58-2
-returns-then-byte_at-ne58-2 c = record { laid_out = (no_claims _ c.no_layout-none.ensures).0; power_in_bounds = (no_claims _ c.no_layout-none.ensures).1 }
+returns-then-byte_at-ne58-2 c = record { laid_out = λ e. absurd (false≢true (sym c.no_layout-none.ensures ∙ e)); power_in_bounds = λ e. absurd (false≢true (sym c.no_layout-none.ensures ∙ e)) }
 
 pub overflow_add-fin_colon : goal.overflow_add-fin_colon
 unfolding is_mark
@@ -131,13 +132,13 @@ pub is_five-requires-2 : goal.is_five-requires-2
 is_five-requires-2 c = (to_until c).within
 
 pub returns-then-not-is_five-2 : goal.returns-then-not-is_five-2
-returns-then-not-is_five-2 c = record { laid_out = (no_claims _ c.no_layout-none.ensures).0; power_in_bounds = (no_claims _ c.no_layout-none.ensures).1 }
+returns-then-not-is_five-2 c = record { laid_out = λ e. absurd (false≢true (sym c.no_layout-none.ensures ∙ e)); power_in_bounds = λ e. absurd (false≢true (sym c.no_layout-none.ensures ∙ e)) }
 
 pub overflow_add-second : goal.overflow_add-second
 overflow_add-second c = omega (arith, c.requires, (to_until (goal.at.overflow_add-second c).After-past_blanks-second).within)
 
 pub returns-then-byte_at-ne44-2 : goal.returns-then-byte_at-ne44-2
-returns-then-byte_at-ne44-2 c = record { laid_out = (no_claims _ c.no_layout-none.ensures).0; power_in_bounds = (no_claims _ c.no_layout-none.ensures).1 }
+returns-then-byte_at-ne44-2 c = record { laid_out = λ e. absurd (false≢true (sym c.no_layout-none.ensures ∙ e)); power_in_bounds = λ e. absurd (false≢true (sym c.no_layout-none.ensures ∙ e)) }
 
 pub overflow_add-power_comma : goal.overflow_add-power_comma
 unfolding is_mark
@@ -150,7 +151,7 @@ overflow_add-power_comma c =
     )
 
 pub returns-then-not-stands-3 : goal.returns-then-not-stands-3
-returns-then-not-stands-3 c = record { laid_out = (no_claims _ c.no_layout-none.ensures).0; power_in_bounds = (no_claims _ c.no_layout-none.ensures).1 }
+returns-then-not-stands-3 c = record { laid_out = λ e. absurd (false≢true (sym c.no_layout-none.ensures ∙ e)); power_in_bounds = λ e. absurd (false≢true (sym c.no_layout-none.ensures ∙ e)) }
 
 pub overflow_add-puissance : goal.overflow_add-puissance
 unfolding is_quoted same
@@ -163,7 +164,7 @@ overflow_add-puissance c =
     )
 
 pub returns-then-byte_at-ne58-3 : goal.returns-then-byte_at-ne58-3
-returns-then-byte_at-ne58-3 c = record { laid_out = (no_claims _ c.no_layout-none.ensures).0; power_in_bounds = (no_claims _ c.no_layout-none.ensures).1 }
+returns-then-byte_at-ne58-3 c = record { laid_out = λ e. absurd (false≢true (sym c.no_layout-none.ensures ∙ e)); power_in_bounds = λ e. absurd (false≢true (sym c.no_layout-none.ensures ∙ e)) }
 
 pub overflow_add-power_colon : goal.overflow_add-power_colon
 unfolding is_mark
@@ -180,9 +181,9 @@ returns c =
     record {
       laid_out = λ e. record {
         to_from = to_from (goal.at.returns c).After-past_blanks-first;
-        from_label = c.is_five.ensures (not-false _ c.if-not-is_five.left);
+        from_label = c.is_five.ensures c.if-not-is_five.false;
         to_until = to_until (goal.at.returns c).After-past_blanks-second;
-        until_label = c.is_five-2.ensures (not-false _ c.if-not-is_five-2.left);
+        until_label = c.is_five-2.ensures c.if-not-is_five-2.false;
         to_power = to_power c;
       };
       power_in_bounds = λ e. leb-true _ _ e;

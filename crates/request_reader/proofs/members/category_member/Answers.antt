@@ -4,7 +4,6 @@ use mathlib.Core.Bool.{true}
 use Prim.Native.Nat.{◌+◌, ◌≤◌}
 use native.Mathlib.Omega.{arith}
 use lib.ListN.{length}
-use borrow.Author.Tests.{not-false}
 use Rattle.notification.specs.Forms.{is_category, six_bytes}
 use Rattle.request.specs.Tokens.{inside, quoted_by}
 use Rattle.request.specs.Writing.{object_most}
@@ -71,7 +70,7 @@ returns-then-byte_at-ne44 c =
     let n = c.category_length-n.result in
     part_found is_category category_unquoted six_bytes _ _ from c.value_at-from.ensures n (category-length-said (goal.at.returns-then-byte_at-ne44 c).After-category_length-n) _
     (part_cut _ from n (from + n + 1) refl) _ _ (from + n + 1 + 1) 8193 _
-    c.is_framed.ensures (not-false _ c.if-not-is_framed.left) c.is_category.ensures (not-false _ c.if-not-is_category.left) (omega arith)
+    c.is_framed.ensures c.if-not-is_framed.false c.is_category.ensures c.if-not-is_category.false (omega arith)
     (mark_lost c.args.s.now (from + n + 1 + 1) _ 44 c.past_blanks-comma.ensures.past comma
     (λ d. c.if-byte_at-ne44.true (c.byte_at.ensures ∙ d)) c.requires)
     (λ h. absurd (omega (arith, h, c.requires)))
@@ -88,7 +87,7 @@ returns c =
     let n = c.category_length-n.result in
     part_found is_category category_unquoted six_bytes _ _ from c.value_at-from.ensures n (category-length-said (goal.at.returns c).After-category_length-n) _
     (part_cut _ from n (from + n + 1) refl) _ _ (from + n + 1 + 1) _ _
-    c.is_framed.ensures (not-false _ c.if-not-is_framed.left) c.is_category.ensures (not-false _ c.if-not-is_category.left) (omega arith)
+    c.is_framed.ensures c.if-not-is_framed.false c.is_category.ensures c.if-not-is_category.false (omega arith)
     (mark_found c.args.s.now (from + n + 1 + 1) _ 44 c.past_blanks-comma.ensures.past comma
     (sym c.byte_at.ensures ∙ c.if-byte_at-ne44.false))
     (λ h. c.six.ensures)

@@ -3,7 +3,6 @@ use mathlib.Core.Path.{sym, ◌∙◌}
 use Prim.Native.Nat.{◌+◌, ◌≤◌}
 use native.Mathlib.Omega.{arith}
 use lib.ListN.{length}
-use borrow.Author.Tests.{not-false}
 use Rattle.notification.specs.Forms.{is_code}
 use Rattle.request.specs.Writing.{object_most}
 use Rattle.request.proofs.Unquoted.{code_unquoted}
@@ -50,7 +49,7 @@ returns-then-byte_at-ne44 c =
     let from = c.value_at-from.result in
     part_found is_code code_unquoted (λ t. t) _ _ from c.value_at-from.ensures 16 (code_long _ from) _
     (part_cut _ from 16 (from + 17) (omega arith)) _ _ (from + 18) 8193 _
-    c.is_framed.ensures (not-false _ c.if-not-is_framed.left) c.is_code.ensures (not-false _ c.if-not-is_code.left) (omega arith)
+    c.is_framed.ensures c.if-not-is_framed.false c.is_code.ensures c.if-not-is_code.false (omega arith)
     (mark_lost c.args.s.now (from + 18) _ 44 c.past_blanks-comma.ensures.past comma
     (λ d. c.if-byte_at-ne44.true (c.byte_at.ensures ∙ d)) c.requires)
     (λ h. absurd (omega (arith, h, c.requires)))
@@ -64,10 +63,10 @@ overflow_add-result c =
 pub returns : goal.returns
 returns c =
     let from = c.value_at-from.result in
-    let good = not-false _ c.if-not-is_code.left in
+    let good = c.if-not-is_code.false in
     part_found is_code code_unquoted (λ t. t) _ _ from c.value_at-from.ensures 16 (code_long _ from) _
     (part_cut _ from 16 (from + 17) (omega arith)) _ _ (from + 18) _ _
-    c.is_framed.ensures (not-false _ c.if-not-is_framed.left) c.is_code.ensures good (omega arith)
+    c.is_framed.ensures c.if-not-is_framed.false c.is_code.ensures good (omega arith)
     (mark_found c.args.s.now (from + 18) _ 44 c.past_blanks-comma.ensures.past comma
     (sym c.byte_at.ensures ∙ c.if-byte_at-ne44.false))
     (λ h. code_filled _ _ (sym c.is_code.ensures ∙ good) c.sixteen.ensures)

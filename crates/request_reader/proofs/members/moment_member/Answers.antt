@@ -3,7 +3,6 @@ use mathlib.Core.Path.{sym, ◌∙◌}
 use Prim.Native.Nat.{◌+◌, ◌≤◌}
 use native.Mathlib.Omega.{arith}
 use lib.ListN.{length}
-use borrow.Author.Tests.{not-false}
 use Rattle.lists.proofs.Tests.{and_left}
 use Rattle.request.specs.Moments.{moment_in}
 use Rattle.request.specs.Writing.{object_most}
@@ -59,7 +58,7 @@ returns-then-byte_at-ne44 c =
     let from = c.value_at-from.result in
     part_found (is_timely latest) (timely_plain latest) moment_in _ _ from c.value_at-from.ensures 20
     (timely_long latest _ from moment_twenty) _ (part_cut _ from 20 (from + 21) (omega arith)) _ _ (from + 22) 8193 _
-    c.is_framed.ensures (not-false _ c.if-not-is_framed.left) (timely_read latest _ _ _ m.0 m.1) (not-false _ c.if-not-read-moment.left) (omega arith)
+    c.is_framed.ensures c.if-not-is_framed.false (timely_read latest _ _ _ m.0 m.1) c.if-not-read-moment.false (omega arith)
     (mark_lost c.args.s.now (from + 22) _ 44 c.past_blanks-comma.ensures.past comma
     (λ d. c.if-byte_at-ne44.true (c.byte_at.ensures ∙ d)) c.requires)
     (λ h. absurd (omega (arith, h, c.requires)))
@@ -75,10 +74,10 @@ returns c =
     let m = c.moment_of-read.ensures in
     let latest = c.args.latest in
     let from = c.value_at-from.result in
-    let good = not-false _ c.if-not-read-moment.left in
+    let good = c.if-not-read-moment.false in
     part_found (is_timely latest) (timely_plain latest) moment_in _ _ from c.value_at-from.ensures 20
     (timely_long latest _ from moment_twenty) _ (part_cut _ from 20 (from + 21) (omega arith)) _ _ (from + 22) _ _
-    c.is_framed.ensures (not-false _ c.if-not-is_framed.left) (timely_read latest _ _ _ m.0 m.1) good (omega arith)
+    c.is_framed.ensures c.if-not-is_framed.false (timely_read latest _ _ _ m.0 m.1) good (omega arith)
     (mark_found c.args.s.now (from + 22) _ 44 c.past_blanks-comma.ensures.past comma
     (sym c.byte_at.ensures ∙ c.if-byte_at-ne44.false))
     (λ h. m.1 (and_left _ _ good))

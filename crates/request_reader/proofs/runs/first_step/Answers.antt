@@ -8,10 +8,10 @@ use Rattle.request_reader.proofs.runs.first_step.Goals as goal
 
 pub returns-then-is_over-steps : goal.returns-then-is_over-steps
 returns-then-is_over-steps c = record {
-      powers_unchanged = λ e. refl;
-      next_step = λ f. absurd (f refl);
-      laid_out = λ r. absurd (false≢true (sym c.no_layout.ensures ∙ r));
-    }
+  powers_unchanged = λ e. refl;
+  next_step = λ f. absurd (f refl);
+  laid_out = λ r. absurd (false≢true (sym c.no_layout.ensures ∙ r));
+}
 
 pub returns-then-t-ne0 : goal.returns-then-t-ne0
 returns-then-t-ne0 c =
@@ -53,9 +53,9 @@ pub returns-in-Is : goal.returns-in-Is
 returns-in-Is c =
     let a = c.args in
     let w = rw (c.in-Is.is, c.requires.2) at c.plain_front-front.ensures in
-    let m = may_run a.steps a.t _ c.is_over.ensures c.if-is_over-steps.left in
-    let zero = c.if-t-ne0.left in
-    let told = first_next a.steps a.s.now a.at _ _ a.t a.powers.now (omega (arith, c.if-at-lt2.left)) zero m.1 m.2
+    let m = may_run a.steps a.t _ c.is_over.ensures c.if-is_over-steps.false in
+    let zero = c.if-t-ne0.false in
+    let told = first_next a.steps a.s.now a.at _ _ a.t a.powers.now (omega (arith, c.if-at-lt2.false)) zero m.1 m.2
     c.requires.1 w.1 in
     record {
       powers_unchanged = λ e. absurd (omega (arith, e, zero));

@@ -1,7 +1,6 @@
 -- What is the same as in the other step, the four bytes of each label and the power, one after another.
 use mathlib.Core.Path.{refl, sym, ◌∙◌}
 use native.Mathlib.Omega.{arith}
-use borrow.Author.Tests.{not-false}
 use Rattle.request_reader.specs.Steps.{RunAt}
 use Rattle.request_reader.proofs.LaidFronts.{laid_again}
 use Rattle.request_reader.proofs.runs.laid_front.Goals as goal
@@ -14,7 +13,7 @@ same_near-requires-2 c =
     let x = c.requires in
     let least = x.2.to_power.least in
     let most = x.2.to_power.upto in
-    (omega (arith, least), omega (arith, least, most), omega (arith, least, c.if-s-at.left), omega (arith, least, x.1.to_power.within))
+    (omega (arith, least), omega (arith, least, most), omega (arith, least, c.if-s-at.false), omega (arith, least, x.1.to_power.within))
 
 pub overflow_add-result : goal.overflow_add-result
 overflow_add-result c =
@@ -36,9 +35,9 @@ pub returns-in-Is : goal.returns-in-Is
 returns-in-Is c =
     let a = c.args in
     laid_again a.s.now a.t.now a.at a.lead a.i a.l c.requires.1 c.requires.3 c.requires.4 _ _ _ refl refl refl _ _
-    (sym c.same_at.ensures ∙ not-false c.same_at.result c.if-not-same_at.left)
-    (sym c.four_at.ensures ∙ not-false c.four_at.result c.if-not-four_at.left)
-    (sym c.same_near.ensures ∙ not-false c.same_near.result c.if-not-same_near.left)
-    (sym c.four_at-2.ensures ∙ not-false c.four_at-2.result c.if-not-four_at-2.left)
-    (sym c.same_near-2.ensures ∙ not-false c.same_near-2.result c.if-not-same_near-2.left)
+    (sym c.same_at.ensures ∙ c.if-not-same_at.false)
+    (sym c.four_at.ensures ∙ c.if-not-four_at.false)
+    (sym c.same_near.ensures ∙ c.if-not-same_near.false)
+    (sym c.four_at-2.ensures ∙ c.if-not-four_at-2.false)
+    (sym c.same_near-2.ensures ∙ c.if-not-same_near-2.false)
     (rw c.in-Is.is at c.run_power-read.ensures)

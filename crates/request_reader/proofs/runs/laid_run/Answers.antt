@@ -15,9 +15,9 @@ within-day first k o f h = by_test (ltb first k) (λ t. f (ltb-true first k t)) 
 
 pub returns-then-is_over-steps : goal.returns-then-is_over-steps
 returns-then-is_over-steps c = record {
-      onward = onward_refl c.args.steps c.args.s.now c.args.from _;
-      at_in_bounds = c.requires.0;
-    }
+  onward = onward_refl c.args.steps c.args.s.now c.args.from _;
+  at_in_bounds = c.requires.0;
+}
 
 pub run_end-stop-requires : goal.run_end-stop-requires
 run_end-stop-requires c =
@@ -74,6 +74,6 @@ overflow_cast-tally c =
 
 pub returns : goal.returns
 returns c = let i = c.loop-k.invariant in record {
-      onward = i.onward;
-      at_in_bounds = i.within;
-    }
+  onward = i.onward;
+  at_in_bounds = i.within;
+}

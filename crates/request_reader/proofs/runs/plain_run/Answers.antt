@@ -7,9 +7,9 @@ use Rattle.request_reader.proofs.runs.plain_run.Goals as goal
 
 pub returns-then-is_over-steps : goal.returns-then-is_over-steps
 returns-then-is_over-steps c = record {
-      onward = onward_refl c.args.steps c.args.s.now c.args.from _;
-      at_in_bounds = c.requires.0;
-    }
+  onward = onward_refl c.args.steps c.args.s.now c.args.from _;
+  at_in_bounds = c.requires.0;
+}
 
 pub run_end-stop-requires : goal.run_end-stop-requires
 run_end-stop-requires c =
@@ -59,12 +59,12 @@ loop-k-preserved c =
 
 pub returns-after-loop-k : goal.returns-after-loop-k
 returns-after-loop-k c = let i = c.loop-k.invariant in record {
-      onward = i.onward;
-      at_in_bounds = i.within;
-    }
+  onward = i.onward;
+  at_in_bounds = i.within;
+}
 
 pub returns-in-Not : goal.returns-in-Not
 returns-in-Not c = let i = c.loop-k.invariant in record {
-      onward = i.onward;
-      at_in_bounds = i.within;
-    }
+  onward = i.onward;
+  at_in_bounds = i.within;
+}

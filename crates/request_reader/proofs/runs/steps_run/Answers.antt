@@ -23,7 +23,7 @@ returns-then-not-is_wide c = c.plain_run-run.ensures.onward
 
 pub laid_run-requires : goal.laid_run-requires
 laid_run-requires c =
-    let wide = c.is_is_wide in
+    let wide = c.is_wide in
     let laid = c.requires.3 c.if-not-laid.false in
     (c.plain_run-run.ensures.at_in_bounds, c.requires.1, c.requires.2, laid, wide.ensures c.if-not-is_wide.false)
 

@@ -25,7 +25,7 @@ told_step-told-requires c =
 pub returns : goal.returns
 returns c =
     let listed = c.listed_step-listed.ensures.powers_unchanged c.if-listed-t.false in
-    let first = c.first_step-first.ensures.powers_unchanged c.if-first-t.left in
+    let first = c.first_step-first.ensures.powers_unchanged c.if-first-t.false in
     record {
       next_step = rw (listed, first) at c.told_step-told.ensures;
       laid_out = λ r. absurd (false≢true (sym c.no_layout.ensures ∙ r));

@@ -53,8 +53,8 @@ pub returns-then-byte_at-ne44 : goal.returns-then-byte_at-ne44
 returns-then-byte_at-ne44 c =
     let a = c.args in
     let first = c.past_blanks-first.ensures.past in
-    let some = not_none a.s.now c.requires.0 a.from _ first (λ e. c.if-byte_at-eq93.left (c.byte_at.ensures ∙ e)) in
-    let due = due_told a.steps a.s.now _ _ _ _ _ _ _ some c.loop-labels.inv c.next_step-step.ensures.next_step in
+    let some = not_none a.s.now c.requires.0 a.from _ first (λ e. c.if-byte_at-eq93.false (c.byte_at.ensures ∙ e)) in
+    let due = due_told a.steps a.s.now _ _ _ _ _ _ _ some c.loop-labels.invariant c.next_step-step.ensures.next_step in
     last_step a.s.now _ _ _ c.past_blanks-mark.ensures.past c.requires.0 _ c.after_mark-end.ensures.walked
     (λ e. c.if-byte_at-ne44.true (c.byte_at-in-loop-labels.ensures ∙ e)) c.is_closed-then-byte_at-ne44.ensures a.steps a.from _ _ _ first
     (told_on a.steps a.s.now _ _ _ _ _ _ due c.steps_run-run.ensures)
@@ -76,6 +76,6 @@ loop-labels-preserved c =
     let a = c.args in
     let comma = sym c.byte_at-in-loop-labels.ensures ∙ c.if-byte_at-ne44.false in
     let passed = between-passed a.s.now c.steps_run-run.result.at _ _ c.past_blanks-mark.ensures.past c.after_mark-end.ensures.passed c.past_blanks-mark.ensures.passed comma in
-    let some = not_none a.s.now c.requires.0 a.from _ c.past_blanks-first.ensures.past (λ e. c.if-byte_at-eq93.left (c.byte_at.ensures ∙ e)) in
-    let due = due_told a.steps a.s.now _ _ _ _ _ _ _ some c.loop-labels.inv c.next_step-step.ensures.next_step in
+    let some = not_none a.s.now c.requires.0 a.from _ c.past_blanks-first.ensures.past (λ e. c.if-byte_at-eq93.false (c.byte_at.ensures ∙ e)) in
+    let due = due_told a.steps a.s.now _ _ _ _ _ _ _ some c.loop-labels.invariant c.next_step-step.ensures.next_step in
     due_next a.steps a.s.now _ _ _ _ _ (told_on a.steps a.s.now _ _ _ _ _ _ due c.steps_run-run.ensures) passed

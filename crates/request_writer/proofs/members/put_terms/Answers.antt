@@ -1,11 +1,6 @@
 -- `members::put_terms` meets its contract: the category, the two dates and the status, one after the other.
-use mathlib.Core.Path.{sym}
-use lib.Seq.{length-take-le}
 use Rattle.request_writer.proofs.Terms.{room_category, room_day, room_submitted, room_status, terms_placed}
 use Rattle.request_writer.proofs.members.put_terms.Goals as goal
-
-pub slice_bounds-put_value-end-4 : goal.slice_bounds-put_value-end-4
-slice_bounds-put_value-end-4 c = sym (length-take-le _ _ c.category_length-n.ensures.2)
 
 pub put_value-second-requires : goal.put_value-second-requires
 put_value-second-requires c =

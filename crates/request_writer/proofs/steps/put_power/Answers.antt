@@ -1,16 +1,11 @@
 -- `steps::put_power` meets its contract: the power's digits, and the end of its step.
 use Rattle.request_writer.proofs.StepObjects.{power_room, power_end_lem, power_placed}
-use Rattle.writer.proofs.StepLines.{digits_few, room_digits}
+use Rattle.writer.proofs.StepLines.{digits_few}
 use Rattle.request_writer.proofs.steps.put_power.Goals as goal
 
 pub slice_bounds-bytes-end : goal.slice_bounds-bytes-end
 slice_bounds-bytes-end c =
     digits_few c.args.p c.digits_of-power.result.bytes c.digits_of-power.result.len c.digits_of-power.ensures
-
-pub slice-aggregate-put-value-2 : goal.slice-aggregate-put-value-2
-slice-aggregate-put-value-2 c =
-    let d = c.before.before.before.before in
-    room_digits (start d).args.p d.digits_of.result.bytes d.digits_of.result.len d.digits_of.ensures
 
 pub put_value-end-requires : goal.put_value-end-requires
 put_value-end-requires c =

@@ -10,8 +10,10 @@ put_object-length-requires c =
 
 pub returns-in-Pass : goal.returns-in-Pass
 returns-in-Pass c =
-    object_written c.args.r c.args.buffer.now _ _ (sym c.in-Pass.is ∙ c.write_verdict-verdict.ensures) c.put_object-length.ensures
+    let w = object_written c.args.r c.args.buffer.now _ _ (sym c.in-Pass.is ∙ c.write_verdict-verdict.ensures) c.put_object-length.ensures in
+    record { value = w.0; buffer_after = w.1 }
 
 pub returns-in-No : goal.returns-in-No
 returns-in-No c =
-    object_refused c.args.r c.args.buffer.now _ (sym c.in-No.is ∙ c.write_verdict-verdict.ensures)
+    let w = object_refused c.args.r c.args.buffer.now _ (sym c.in-No.is ∙ c.write_verdict-verdict.ensures) in
+    record { value = w.0; buffer_after = w.1 }

@@ -8,11 +8,10 @@ returns-then-self-total c =
     fed_not c.args.self c.args.piece.now _ (header_long c.args.self _ c.well_formed.0) c.length_with-total.ensures c.if-self-total.true
 
 pub walk-requires : goal.walk-requires
-walk-requires c =
-    (
-      fed_name c.args.self c.args.piece.now _ (header_long c.args.self _ c.well_formed.0) c.length_with-total.ensures c.if-self-total.false,
-      omega arith,
-    )
+walk-requires c = (
+  fed_name c.args.self c.args.piece.now _ (header_long c.args.self _ c.well_formed.0) c.length_with-total.ensures c.if-self-total.false,
+  omega arith,
+)
 
 pub returns-then-self-eq0 : goal.returns-then-self-eq0
 returns-then-self-eq0 c =

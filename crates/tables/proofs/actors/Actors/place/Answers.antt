@@ -9,12 +9,11 @@ returns-then-is_text c =
     c.loop-i.invariant.1 c.is_text.result c.loop-i-test.true c.is_text.ensures c.if-is_text.true
 
 pub loop-i-preserved : goal.loop-i-preserved
-loop-i-preserved c =
-    (
-      omega arith,
-      actor_past c.args.self _ _ c.loop-i.i c.least-n.ensures (actors_length c.args.self _ c.well_formed.0)
-          c.loop-i.invariant.1 c.is_text.result c.loop-i-test.true c.is_text.ensures c.if-is_text.false,
-    )
+loop-i-preserved c = (
+  omega arith,
+  actor_past c.args.self _ _ c.loop-i.i c.least-n.ensures (actors_length c.args.self _ c.well_formed.0)
+      c.loop-i.invariant.1 c.is_text.result c.loop-i-test.true c.is_text.ensures c.if-is_text.false,
+)
 
 pub returns : goal.returns
 returns c =

@@ -9,12 +9,11 @@ returns-then-stands_for c =
     c.loop-i.invariant.1 c.stands_for.result c.loop-i-test.true c.stands_for.ensures c.if-stands_for.true
 
 pub loop-i-preserved : goal.loop-i-preserved
-loop-i-preserved c =
-    (
-      omega arith,
-      category_past c.args.self _ _ c.loop-i.i c.least-n.ensures (categories_length c.args.self _ c.well_formed.0)
-          c.loop-i.invariant.1 c.stands_for.result c.loop-i-test.true c.stands_for.ensures c.if-stands_for.false,
-    )
+loop-i-preserved c = (
+  omega arith,
+  category_past c.args.self _ _ c.loop-i.i c.least-n.ensures (categories_length c.args.self _ c.well_formed.0)
+      c.loop-i.invariant.1 c.stands_for.result c.loop-i-test.true c.stands_for.ensures c.if-stands_for.false,
+)
 
 pub returns : goal.returns
 returns c =
