@@ -1,22 +1,31 @@
 #!/usr/bin/env bash
-# Every must-fail edit was refused for what it says. A refusal shows nothing where the edit names what its file doesn't import, where no
-# need can be named, or where the prover met a bound of its own: none of the logs that `rt ci` or `rt must-fail` left says so.
+# Every must-fail edit was refused for what it says. A refusal shows nothing where the edited text can't be read, where only a proof file
+# names what the edit took away, or where the prover met a bound of its own: the log that the gate keeps of `rt ci` says so of none.
 set -euo pipefail
 cd "$(dirname "${BASH_SOURCE[0]}")/.."
+log=target/ci.log
+if [[ ! -e $log ]]; then
+    echo "There is no $log, which .ci/run writes: run 'rt ci 2>&1 | tee $log' first." >&2
+    exit 1
+fi
+
+declare -A said
+while IFS= read -r line; do
+    if [[ $line =~ ^rt:\ must-fail\ ([^ ]+\.edit):\ (.*)$ ]]; then said[${BASH_REMATCH[1]}]=${BASH_REMATCH[2]}; fi
+done < "$log"
 
 edits=0 wrong=0
 for edit in crates/*/must-fail/*.edit; do
     name=${edit#crates/}
-    log=target/must-fail/${name/must-fail\//}
-    log=${log%.edit}/.log
+    name=${name/must-fail\//}
     edits=$((edits + 1))
-    if [[ ! -s $log ]]; then
-        echo "$edit has no log: run 'rt must-fail' first." >&2
+    if [[ ! -v said[$name] ]]; then
+        echo "$edit is not in the log." >&2
         wrong=$((wrong + 1))
-    elif ! awk '/is not in scope|can be named from here|met a bound of its own/ { print; bad = 1 } END { exit bad }' "$log" >&2; then
-        echo "$edit was refused for its text, not for the mistake." >&2
+    elif [[ ${said[$name]} != "refused, as it must be"* || ${said[$name]} == "refused, as it must be (only "* ]]; then
+        echo "$edit was not refused for the mistake: ${said[$name]}" >&2
         wrong=$((wrong + 1))
     fi
 done
-echo "$edits must-fail edits, $wrong refused for nothing or without a log"
+echo "$edits must-fail edits, $wrong refused for nothing or not in the log"
 [[ $edits -gt 0 && $wrong -eq 0 ]]

@@ -1,4 +1,4 @@
-//! Links the static library that `rt staticlib register_c` writes.
+//! Links the static library that `tests/static_library.bash` makes.
 use std::path::Path;
 use std::process::exit;
 
@@ -7,7 +7,7 @@ fn main() {
     let library = folder.join("libregister_c.a");
     println!("cargo:rerun-if-changed={}", library.display());
     if !library.exists() {
-        eprintln!("{} is missing: run 'rt staticlib register_c' in the repository's root first", library.display());
+        eprintln!("{} is missing: run 'bash tests/static_library.bash' in the repository's root first", library.display());
         exit(1);
     }
     println!("cargo:rustc-link-search=native={}", folder.display());
