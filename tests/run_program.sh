@@ -8,11 +8,11 @@ printf 'C,13120\nF,x,n\nF,x,file\n' | folder good
 body good 2
 printf 'C,13120\nF,x,file\nF,x,file\n' | folder plain
 
-mkdir -p root/tests root/crates/one root/c root/target/bin tools
+mkdir -p root/tests root/crates/one root/crates/register_script/out root/c root/target/bin tools
 cp "$root/run" root
 cp "$root/tests/script_program.bash" root/tests
 touch root/crates.txt root/crates/one/file root/c/register_script.c
-touch -d '1 hour ago' root/crates.txt root/crates root/crates/one root/crates/one/file root/c/register_script.c
+touch -d '1 hour ago' root/crates.txt root/crates root/crates/* root/crates/one/file root/c/register_script.c
 program=root/target/bin/register_script
 stand_in() { # WORDS
     printf '#!/usr/bin/env bash\n%s\n' "$1" > "$program"
@@ -40,7 +40,7 @@ IFS=: read -r -a places <<< "$PATH"
 for place in "${places[@]}"; do ln -s "$place"/* tools 2> /dev/null || true; done
 rm -f tools/rt tools/cc
 mkdir kit kit/bin
-printf '#!/usr/bin/env bash\necho "rt $*" >> "%s/calls"\nexit "${RT_STATUS:-0}"\n' "$work" > kit/bin/rt
+printf '#!/usr/bin/env bash\necho "$PWD: rt $*" >> "%s/calls"\nexit "${RT_STATUS:-0}"\n' "$work" > kit/bin/rt
 printf '#!/usr/bin/env bash\necho "cc $*" >> "%s/calls"\nprintf "#!/usr/bin/env bash\\necho built\\n" > "${@: -1}"\nchmod +x "${@: -1}"\n' \
     "$work" > kit/bin/cc
 chmod +x kit/bin/rt kit/bin/cc
@@ -49,9 +49,10 @@ built() { # TITLE: rt and cc were called, and what cc made answers
     : > calls
     ends "$1" 0 with_tools root/run folders/plain <<< built
     {
-        echo "rt staticlib register_script"
-        echo "cc -std=c11 -O2 -Wall -Wextra -Werror c/register_script.c target/staticlib/libregister_script.a" \
-            "$work/kit/bin/../lib/libos_c.a -o $work/root/target/bin/register_script"
+        echo "$work/root/crates/register_script: rt run"
+        echo "cc -std=c11 -O2 -Wall -Wextra -Werror -Wl,--wrap=main,--wrap=open c/register_script.c" \
+            "crates/register_script/out/register_script.o $work/kit/bin/../c/libos_c.a $work/kit/bin/../c/liblibc_c.a" \
+            "-o $work/root/target/bin/register_script"
     } > expected
     if ! cmp calls expected; then fail "$1" "other calls than expected"; fi
 }
@@ -71,6 +72,11 @@ for source in crates.txt crates/one/file c/register_script.c; do
     built "$source is newer"
     touch -d '1 hour ago' "root/$source"
 done
+touch root/crates/register_script/out/made
+touch -d '1 hour' root/crates/register_script/out/made
+: > calls
+ends "what rt made is newer" 0 with_tools root/run folders/plain <<< built
+if [[ -s calls ]]; then fail "what rt made is newer" "something was built"; fi
 touch -d '1 hour' root/crates.txt
 ends "built with no standard error" 0 with_tools bash -c 'exec root/run folders/plain 2>&-' <<< built
 rm -r root/target

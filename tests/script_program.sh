@@ -126,6 +126,15 @@ printf 'x\n' > sub/x
 file_answers "a name with a slash" sub/x no,1,0
 file_answers "a name with a slash, missing" sub/y no,11,0
 file_answers "a device" /dev/null no,1,0
+printf 'x\n' > $'caf\351'
+file_answers "a name that isn't UTF-8" $'caf\351' no,1,0
+file_answers "the same name in UTF-8, missing" $'caf\303\251' no,11,0
+mv $'caf\351' $'caf\303\251'
+file_answers "a name in UTF-8" $'caf\303\251' no,1,0
+file_answers "the same name not in UTF-8, missing" $'caf\351' no,11,0
+mkdir $'\200\377'
+printf 'x\n' > $'\200\377/\300\301\337\340'
+file_answers "names that are bytes of UTF-8 in disorder" $'\200\377/\300\301\337\340' no,1,0
 printf 'F,x,sub\0/x\n' > input
 answers "a name with NUL" 1,no,11,0
 

@@ -3,6 +3,7 @@ ghost use Rattle.std.specs.Prelude.{◌≤◌};
 
 use crate::printing::{put, put_day, put_number, put_with};
 use calendar::{DAYS, Day, PLAIN_STEPS};
+use std::io;
 
 const YEARS: u32 = 100;
 
@@ -74,39 +75,41 @@ fn year_end(first: u32) -> u32
 }
 
 // The days from one to another, not included: how many, their sum, and how many read back.
-fn span_line(first: u32, last: u32)
+fn span_line(rt: &impl Print, first: u32, last: u32) -> io::Result<()>
     requires { first ≤ last }
 {
-    put_number(last - first);
-    put(b" days from ");
-    put_day(first);
-    put_with(b", sum ", sum_of(first, last));
-    put_with(b", read back ", read_back(first, last));
-    put(b"\n");
+    put_number(rt, last - first)?;
+    put(rt, b" days from ")?;
+    put_day(rt, first)?;
+    put_with(rt, b", sum ", sum_of(first, last))?;
+    put_with(rt, b", read back ", read_back(first, last))?;
+    put(rt, b"\n")
 }
 
-pub(crate) fn years() {
+pub(crate) fn years(rt: &impl Print) -> io::Result<()> {
     let mut first = 0;
     for _ in 0..YEARS {
         let next = year_end(first);
-        span_line(first, next);
+        span_line(rt, first, next)?;
         first = next;
     }
-    span_line(0, DAYS);
+    span_line(rt, 0, DAYS)
 }
 
-fn change_line(day: u32, steps: u32) {
+fn change_line(rt: &impl Print, day: u32, steps: u32) -> io::Result<()> {
     if steps != PLAIN_STEPS {
-        put_with(b"day ", day);
-        put(b" ");
-        put_day(day);
-        put_with(b" ", steps);
-        put(b" steps\n");
+        put_with(rt, b"day ", day)?;
+        put(rt, b" ")?;
+        put_day(rt, day)?;
+        put_with(rt, b" ", steps)?;
+        put(rt, b" steps\n")?;
     }
+    Ok(())
 }
 
-pub(crate) fn changes() {
+pub(crate) fn changes(rt: &impl Print) -> io::Result<()> {
     for day in 0..DAYS {
-        change_line(day, calendar::steps_of(day));
+        change_line(rt, day, calendar::steps_of(day))?;
     }
+    Ok(())
 }

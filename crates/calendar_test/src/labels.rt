@@ -1,32 +1,34 @@
 // Every label of the three kinds of day, and what stands outside a day.
 use crate::printing::{put, put_label, put_with};
 use calendar::{LONG_STEPS, PLAIN_STEPS, SHORT_STEPS};
+use std::io;
 
-fn step_line(steps: u32, step: u32) {
+fn step_line(rt: &impl Print, steps: u32, step: u32) -> io::Result<()> {
     let labels = calendar::labels_of(steps, step);
     let from = labels.from;
     let until = labels.until;
-    put_with(b"step ", step);
-    put_with(b" of ", steps);
-    put(b" ");
-    put_label(from);
-    put(b";");
-    put_label(until);
-    put(b"\n");
+    put_with(rt, b"step ", step)?;
+    put_with(rt, b" of ", steps)?;
+    put(rt, b" ")?;
+    put_label(rt, from)?;
+    put(rt, b";")?;
+    put_label(rt, until)?;
+    put(rt, b"\n")
 }
 
 // Every step of a day, and the one after its last.
-fn day_labels(steps: u32) {
+fn day_labels(rt: &impl Print, steps: u32) -> io::Result<()> {
     for step in 0..=steps {
-        step_line(steps, step);
+        step_line(rt, steps, step)?;
     }
+    Ok(())
 }
 
-pub(crate) fn all_labels() {
-    day_labels(SHORT_STEPS);
-    day_labels(PLAIN_STEPS);
-    day_labels(LONG_STEPS);
-    step_line(51, 0);
-    step_line(0, 0);
-    step_line(4294967295, 4294967294);
+pub(crate) fn all_labels(rt: &impl Print) -> io::Result<()> {
+    day_labels(rt, SHORT_STEPS)?;
+    day_labels(rt, PLAIN_STEPS)?;
+    day_labels(rt, LONG_STEPS)?;
+    step_line(rt, 51, 0)?;
+    step_line(rt, 0, 0)?;
+    step_line(rt, 4294967295, 4294967294)
 }

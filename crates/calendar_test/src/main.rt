@@ -9,16 +9,18 @@ mod days;
 mod labels;
 mod printing;
 
-fn main() {
-    days::years();
-    days::changes();
-    labels::all_labels();
-    dates::good_dates();
-    dates::impossible_dates();
-    dates::no_dates();
-    dates::past_the_last();
-    clocks::plain_minutes();
-    clocks::short_minutes();
-    clocks::long_minutes();
-    clocks::advances();
+use std::io;
+
+fn main(rt: HostRuntime) -> io::Result<()> {
+    days::years(&rt)?;
+    days::changes(&rt)?;
+    labels::all_labels(&rt)?;
+    dates::good_dates(&rt)?;
+    dates::impossible_dates(&rt)?;
+    dates::no_dates(&rt)?;
+    dates::past_the_last(&rt)?;
+    clocks::plain_minutes(&rt)?;
+    clocks::short_minutes(&rt)?;
+    clocks::long_minutes(&rt)?;
+    clocks::advances(&rt)
 }

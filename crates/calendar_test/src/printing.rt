@@ -1,27 +1,28 @@
 // Texts, numbers, days and labels on standard output.
 use calendar::Label;
+use std::io;
 
-pub(crate) fn put(text: &[u8]) {
-    io::write_all(libc::STDOUT_FILENO, text);
+pub(crate) fn put(rt: &impl Print, text: &[u8]) -> io::Result<()> {
+    rt.write_all(text)
 }
 
-pub(crate) fn put_number(n: u32) {
-    io::print_decimal(libc::STDOUT_FILENO, n as u64);
+pub(crate) fn put_number(rt: &impl Print, n: u32) -> io::Result<()> {
+    rt.print(n)
 }
 
 // A text, and a number after it.
-pub(crate) fn put_with(text: &[u8], n: u32) {
-    put(text);
-    put_number(n);
+pub(crate) fn put_with(rt: &impl Print, text: &[u8], n: u32) -> io::Result<()> {
+    put(rt, text)?;
+    put_number(rt, n)
 }
 
-pub(crate) fn put_day(day: u32) {
+pub(crate) fn put_day(rt: &impl Print, day: u32) -> io::Result<()> {
     let text = calendar::text_of(day);
-    put(&text);
+    put(rt, &text)
 }
 
-pub(crate) fn put_label(label: Label) {
+pub(crate) fn put_label(rt: &impl Print, label: Label) -> io::Result<()> {
     let bytes = label.bytes;
-    let n = io::count(label.len as isize, &bytes);
-    put(&bytes[..n]);
+    let n = bytes.len().min(label.len as usize);
+    put(rt, &bytes[..n])
 }

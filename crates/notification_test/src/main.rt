@@ -14,55 +14,58 @@ mod writing;
 
 use files::{LONG_DAY, PLAIN_DAY, guide, long_powers, noted, sevens};
 use printing::put;
+use std::io;
 use writing::write_into;
 
 // A name and a body, as they were written.
-fn show(name: &[u8], body: &[u8]) {
-    put(name);
-    put(b"\n");
-    put(body);
+fn show(rt: &impl Print, name: &[u8], body: &[u8]) -> io::Result<()> {
+    put(rt, name)?;
+    put(rt, b"\n")?;
+    put(rt, body)
 }
 
-fn plain_day() {
+fn plain_day(rt: &impl Print) -> io::Result<()> {
     let mut name = [0u8; 57];
     let mut body = [0u8; 819];
-    write_into(b"plain day", guide(), &mut name, &mut body);
-    show(&name, &body);
-    faults::all_cases(&name, &body);
+    write_into(rt, b"plain day", guide(), &mut name, &mut body)?;
+    show(rt, &name, &body)?;
+    faults::all_cases(rt, &name, &body)
 }
 
-fn zeros() {
+fn zeros(rt: &impl Print) -> io::Result<()> {
     let mut name = [0u8; 57];
     let mut body = [0u8; 771];
     write_into(
+        rt,
         b"sevens",
         noted(PLAIN_DAY, 48, sevens()),
         &mut name,
         &mut body,
-    );
+    )?;
     pieces::zeroed(&mut body);
-    days::zero_powers(&name, &body);
+    days::zero_powers(rt, &name, &body)
 }
 
-fn long_day() {
+fn long_day(rt: &impl Print) -> io::Result<()> {
     let mut name = [0u8; 57];
     let mut body = [0u8; 869];
     write_into(
+        rt,
         b"long day",
         noted(LONG_DAY, 50, long_powers()),
         &mut name,
         &mut body,
-    );
-    show(&name, &body);
-    days::long_day(&name, &body);
+    )?;
+    show(rt, &name, &body)?;
+    days::long_day(rt, &name, &body)
 }
 
-fn main() {
-    plain_day();
-    zeros();
-    long_day();
-    writing::forms();
-    writing::ranges();
-    writing::short_name();
-    writing::short_body();
+fn main(rt: HostRuntime) -> io::Result<()> {
+    plain_day(&rt)?;
+    zeros(&rt)?;
+    long_day(&rt)?;
+    writing::forms(&rt)?;
+    writing::ranges(&rt)?;
+    writing::short_name(&rt)?;
+    writing::short_body(&rt)
 }

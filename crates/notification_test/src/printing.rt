@@ -2,30 +2,31 @@
 // other.
 use notification::{Notification, Reading};
 use refusals::{Refusal, Verdict};
+use std::io;
 
-pub(crate) fn put(text: &[u8]) {
-    io::write_all(libc::STDOUT_FILENO, text);
+pub(crate) fn put(rt: &impl Print, text: &[u8]) -> io::Result<()> {
+    rt.write_all(text)
 }
 
-pub(crate) fn put_number(n: u32) {
-    io::print_decimal(libc::STDOUT_FILENO, n as u64);
+pub(crate) fn put_number(rt: &impl Print, n: u32) -> io::Result<()> {
+    rt.print(n)
 }
 
 // A text, and a number after it.
-pub(crate) fn put_with(text: &[u8], n: u32) {
-    put(text);
-    put_number(n);
+pub(crate) fn put_with(rt: &impl Print, text: &[u8], n: u32) -> io::Result<()> {
+    put(rt, text)?;
+    put_number(rt, n)
 }
 
 // A text, and a length after it.
-pub(crate) fn put_length(text: &[u8], n: usize) {
-    put(text);
-    io::print_decimal(libc::STDOUT_FILENO, n as u64);
+pub(crate) fn put_length(rt: &impl Print, text: &[u8], n: usize) -> io::Result<()> {
+    put(rt, text)?;
+    rt.print(n)
 }
 
-pub(crate) fn put_refusal(r: Refusal) {
-    put_with(b"no ", refusals::number_of(r));
-    put_with(b" at ", refusals::place_of(r));
+pub(crate) fn put_refusal(rt: &impl Print, r: Refusal) -> io::Result<()> {
+    put_with(rt, b"no ", refusals::number_of(r))?;
+    put_with(rt, b" at ", refusals::place_of(r))
 }
 
 // A running sum that changes with each value and its place.
@@ -92,11 +93,11 @@ fn mark(n: Notification) -> u32 {
     mixed_powers(fourth, &powers)
 }
 
-pub(crate) fn put_notification(n: Notification) {
+pub(crate) fn put_notification(rt: &impl Print, n: Notification) -> io::Result<()> {
     let powers = n.powers;
-    put_with(b"ok, steps ", n.steps);
-    put_with(b", sum ", total(&powers));
-    put_with(b", mark ", mark(n));
+    put_with(rt, b"ok, steps ", n.steps)?;
+    put_with(rt, b", sum ", total(&powers))?;
+    put_with(rt, b", mark ", mark(n))
 }
 
 // Number and place of a refusal as one number, and 0 where there is none.

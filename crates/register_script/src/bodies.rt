@@ -1,12 +1,14 @@
 // The files that lines name: each is read as its bytes come, and its body is not gathered.
 ghost use Rattle.std.specs.Prelude.{◌≤◌};
 
+use crate::names::open;
 use crate::trying::read_some;
 use lists::numbers::least_length;
 use notification::Reading;
 use reader::pieces::FileReader;
 use reader::reading::refuse;
 use refusals::{InputRefusal, Refusal};
+use std::fs;
 
 // The most bytes that are asked for of a file: one more than a body may have, which tells one that is too long.
 const BODY: usize = 4097;
@@ -38,15 +40,14 @@ fn done_with(n: usize, left: usize) -> usize
 
 // Reads a file to its end, or until its body is too long: each part that comes is fed to the reader, at the end an
 // empty one, and then its bytes are forgotten. A read that brings few bytes is not the last.
-fn read_to_end(fd: i32, name: &[u8], part: &mut [u8]) -> File {
+fn read_to_end(rt: &HostRuntime, mut file: fs::File, name: &[u8], part: &mut [u8]) -> File {
     let mut reader = FileReader::begin(name);
     let mut done: usize = 0;
     while done < BODY {
-        let got = read_some(fd, &mut *part);
-        if got < 0 {
-            return unread();
-        }
-        let n = io::count(got, &*part);
+        let n = match read_some(rt, &mut file, &mut *part) {
+            Ok(n) => n,
+            Err(_) => return unread(),
+        };
         let fed = reader.feed(&part[..n]);
         reader = fed;
         done += done_with(n, BODY - done);
@@ -57,13 +58,10 @@ fn read_to_end(fd: i32, name: &[u8], part: &mut [u8]) -> File {
     }
 }
 
-// Opens a file once, reads it and closes it. A part of it at a time stands in the lent buffer.
-pub(crate) fn read_named(name: &[u8], part: &mut [u8]) -> File {
-    let fd = os::open_read(name);
-    if fd < 0 {
-        return unread();
+// Opens a file once and reads it; what holds it open closes it. A part of it at a time stands in the lent buffer.
+pub(crate) fn read_named(rt: &HostRuntime, name: &[u8], part: &mut [u8]) -> File {
+    match open(rt, name) {
+        Ok(file) => read_to_end(rt, file, name, part),
+        Err(_) => unread(),
     }
-    let file = read_to_end(fd, name, part);
-    libc::close(fd);
-    file
 }

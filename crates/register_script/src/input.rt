@@ -1,9 +1,10 @@
 // Standard input by blocks.
 ghost use Rattle.std.specs.Prelude.{◌≤◌, length};
 
+use crate::saying::say;
 use crate::trying::read_some;
-use libc::STDIN_FILENO;
 use lines::holding::{end_line, hold};
+use std::io::Error;
 
 // The bytes that are there now: where they end, whether nothing comes behind them, and whether the input failed.
 #[derive(Clone, Copy)]
@@ -14,10 +15,10 @@ pub(crate) struct Block {
 }
 
 // Says on standard error that the input failed. The part of a line that is held stays without an answer.
-fn failed() -> Block
+fn failed(rt: &HostRuntime, error: &Error) -> Block
     ensures { result.end ≤ 0 }
 {
-    os::fail(b"The script can't be read");
+    say(rt, "The script can't be read", error);
     Block {
         end: 0,
         last: true,
@@ -27,15 +28,14 @@ fn failed() -> Block
 
 // Holds the line that starts at a place and has no end yet, and reads more input behind it. At the input's end this
 // line is the last.
-pub(crate) fn next_block(input: &mut [u8], from: usize, to: usize) -> Block
+pub(crate) fn next_block(rt: &HostRuntime, input: &mut [u8], from: usize, to: usize) -> Block
     ensures { result.end ≤ length input.old }
 {
     let held = hold(input, from, to);
-    let got = read_some(STDIN_FILENO, &mut input[held..]);
-    if got < 0 {
-        return failed();
-    }
-    let n = io::count(got, &input[held..]);
+    let n = match read_some(rt, &mut rt.stdin(), &mut input[held..]) {
+        Ok(n) => n,
+        Err(error) => return failed(rt, &error),
+    };
     if n == 0 {
         let end = end_line(input, held);
         return Block {

@@ -1,31 +1,34 @@
 // The answers on standard output.
 ghost use Rattle.std.specs.Prelude.{◌≤◌, length};
 
+use crate::saying::say;
 use crate::trying::write_some;
-use libc::STDOUT_FILENO;
+use std::io;
+use std::io::{Error, ErrorKind};
 
-// Writes all bytes, in as many writes as it takes, and answers whether all were written. A write that takes nothing is
-// the last.
-fn write_all(bytes: &[u8]) -> bool {
+// Writes all bytes, in as many writes as it takes, or says why not all were written. A write that takes nothing is the
+// last.
+fn write_all(rt: &HostRuntime, bytes: &[u8]) -> io::Result<()> {
     let mut done: usize = 0;
     while done < bytes.len() {
-        let rest = &bytes[done..];
-        let n = io::count(write_some(STDOUT_FILENO, rest), rest);
+        let n = write_some(rt, &bytes[done..])?;
         if n == 0 {
-            return false;
+            return Err(Error::from(ErrorKind::WriteZero));
         }
         done += n;
     }
-    true
+    Ok(())
 }
 
 // Writes the answers that wait and answers whether all were written. Where not, standard error says so.
-pub(crate) fn flush(output: &[u8], out: usize) -> bool
+pub(crate) fn flush(rt: &HostRuntime, output: &[u8], out: usize) -> bool
     requires { out ≤ length output.now }
 {
-    if write_all(&output[..out]) {
-        return true;
+    match write_all(rt, &output[..out]) {
+        Ok(()) => true,
+        Err(error) => {
+            say(rt, "The answers can't be written", &error);
+            false
+        }
     }
-    os::fail(b"The answers can't be written");
-    false
 }

@@ -17,9 +17,10 @@ const UNWRITTEN: u32 = 1;
 const UNREAD: u32 = 2;
 
 // Answers standard input to its end, from a register on. Answers are written where there is no room for more, and
-// before more input is awaited. A proved loop has to end, and nothing says that input does: so the turns are counted
-// down from a number that no run uses up.
+// before more input is awaited. A proved loop has to end, and nothing says that input does: so the turns are counted, up
+// to a number that no run uses up.
 pub(crate) fn run(
+    rt: &HostRuntime,
     head: Head,
     statuses: &mut [u8; 256],
     ids: &mut [u32; 256],
@@ -43,9 +44,7 @@ pub(crate) fn run(
     let mut out: usize = 0;
     let mut given = false;
     let mut file = unread();
-    let mut turns = u64::MAX;
-    while turns > 0 {
-        turns -= 1;
+    for _ in 0..u64::MAX {
         let reading = file.reading;
         let far = answer_lines(
             head,
@@ -72,12 +71,12 @@ pub(crate) fn run(
         out = far.out;
         let wants = far.wants;
         if let Wants::File(from, to) = wants {
-            let found = read_named(&input[from..to], &mut *part);
+            let found = read_named(rt, &input[from..to], &mut *part);
             file = found;
             given = true;
             continue;
         }
-        if !flush(output, out) {
+        if !flush(rt, output, out) {
             return UNWRITTEN;
         }
         out = 0;
@@ -88,7 +87,7 @@ pub(crate) fn run(
         if last {
             return ANSWERED;
         }
-        let block = next_block(input, at, end);
+        let block = next_block(rt, input, at, end);
         if block.failed {
             return UNREAD;
         }

@@ -1,50 +1,58 @@
 // Calls of the system that are made again where they were only put off. A proved loop has to end, and nothing says that
-// a call goes through: so the turns are counted down from a number that no run uses up.
+// a call goes through: so the turns are counted, up to a number that no run uses up.
+ghost use Rattle.std.specs.Io.{ReadsAtMost, WritesAtMost};
+
 use crate::pausing::pause;
-use libc::{EAGAIN, EINTR};
+use std::io;
+use std::io::{Error, ErrorKind, Read, Write};
 
-// Whether the call that failed last is to be made again: at once where a signal interrupted it, after a moment where it
-// would have had to wait.
-fn again() -> bool {
-    let error = os::errno();
-    if error == EINTR {
-        return true;
+// Whether a call that failed is to be made again: at once where a signal interrupted it, after a moment where it would
+// have had to wait.
+fn again(rt: &HostRuntime, error: &Error) -> bool {
+    match error.kind() {
+        ErrorKind::Interrupted => true,
+        ErrorKind::WouldBlock => {
+            pause(rt);
+            true
+        }
+        _ => false,
     }
-    if error == EAGAIN {
-        pause();
-        return true;
-    }
-    false
 }
 
-// Reads once: how many bytes came, 0 at the end, or less than 0 where the read failed.
-pub(crate) fn read_some(fd: i32, buf: &mut [u8]) -> isize {
-    let mut turns = u64::MAX;
-    while turns > 0 {
-        turns -= 1;
-        let got = libc::read(fd, buf);
-        if got >= 0 {
-            return got;
-        }
-        if !again() {
-            return got;
+// Reads once: how many bytes came, 0 at the end, or why the read failed.
+pub(crate) fn read_some<R: Read>(
+    rt: &HostRuntime,
+    from: &mut R,
+    buf: &mut [u8],
+) -> io::Result<usize>
+    ensures { ReadsAtMost result buf.new }
+{
+    for _ in 0..u64::MAX {
+        match from.read(buf) {
+            Ok(n) => return Ok(n),
+            Err(error) => {
+                if !again(rt, &error) {
+                    return Err(error);
+                }
+            }
         }
     }
-    -1
+    Err(Error::from(ErrorKind::TimedOut))
 }
 
-// Writes once: how many bytes went, or less than 0 where the write failed.
-pub(crate) fn write_some(fd: i32, buf: &[u8]) -> isize {
-    let mut turns = u64::MAX;
-    while turns > 0 {
-        turns -= 1;
-        let put = libc::write(fd, buf);
-        if put >= 0 {
-            return put;
-        }
-        if !again() {
-            return put;
+// Writes once to standard output: how many bytes went, or why the write failed.
+pub(crate) fn write_some(rt: &HostRuntime, buf: &[u8]) -> io::Result<usize>
+    ensures { WritesAtMost result buf.now }
+{
+    for _ in 0..u64::MAX {
+        match rt.stdout().write(buf) {
+            Ok(n) => return Ok(n),
+            Err(error) => {
+                if !again(rt, &error) {
+                    return Err(error);
+                }
+            }
         }
     }
-    -1
+    Err(Error::from(ErrorKind::TimedOut))
 }

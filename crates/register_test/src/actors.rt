@@ -2,6 +2,7 @@
 use crate::printing::put;
 use lists::bytes::byte_at;
 use notification::forms::sixteen;
+use std::io;
 
 // The code of an actor by its letter, from A to I: the letter stands in it, and it ends with its check character.
 pub(crate) fn code_of(word: &[u8]) -> [u8; 16] {
@@ -13,22 +14,22 @@ pub(crate) fn code_of(word: &[u8]) -> [u8; 16] {
 }
 
 // A letter and its code.
-fn put_actor(letter: u8) {
+fn put_actor(rt: &impl Print, letter: u8) -> io::Result<()> {
     let name = [letter];
     let code = code_of(&name);
-    put(&name);
-    put(b" ");
-    put(&code);
-    put(b"\n");
+    put(rt, &name)?;
+    put(rt, b" ")?;
+    put(rt, &code)?;
+    put(rt, b"\n")
 }
 
 // Every letter and its code.
-pub(crate) fn put_actors() {
-    put(b"The actors and their codes\n");
+pub(crate) fn put_actors(rt: &impl Print) -> io::Result<()> {
+    put(rt, b"The actors and their codes\n")?;
     let mut letter = b'A';
     while letter <= b'I' {
-        put_actor(letter);
+        put_actor(rt, letter)?;
         letter += 1;
     }
-    put(b"\n");
+    put(rt, b"\n")
 }

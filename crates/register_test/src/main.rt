@@ -15,10 +15,11 @@ mod running;
 mod words;
 
 use running::run_lines;
-use words::part;
+use std::rt::Files;
+use std::{fs, io};
 
 // Runs the scenarios of a file. What the lent columns hold at first means nothing.
-fn run(path: &[u8]) {
+fn run(rt: &(impl Files + Print + Alloc), path: &str) -> io::Result<()> {
     let mut statuses = [7u8; 256];
     let mut ids = [7u32; 256];
     let mut keys = [7u32; 256];
@@ -27,11 +28,9 @@ fn run(path: &[u8]) {
     let mut numbers = [7u32; 64];
     let mut approved = [7u16; 64];
     let mut loads = [[7u16; 50]; 64];
-    let mut text = io::large_buffer();
-    let file = os::open_read(path);
-    let n = io::read_full(file, &mut text);
-    libc::close(file);
+    let text = fs::read(rt, path)?;
     run_lines(
+        rt,
         &mut statuses,
         &mut ids,
         &mut keys,
@@ -40,19 +39,19 @@ fn run(path: &[u8]) {
         &mut numbers,
         &mut approved,
         &mut loads,
-        part(&text, 0, n),
-    );
+        text.as_slice(),
+    )
 }
 
-fn main() {
-    actors::put_actors();
-    run(b"guide");
-    run(b"edges");
-    run(b"filing");
-    run(b"calls");
-    run(b"full");
-    run(b"records");
-    run(b"histories");
-    run(b"eve");
-    run(b"winter");
+fn main(rt: HostRuntime) -> io::Result<()> {
+    actors::put_actors(&rt)?;
+    run(&rt, "guide")?;
+    run(&rt, "edges")?;
+    run(&rt, "filing")?;
+    run(&rt, "calls")?;
+    run(&rt, "full")?;
+    run(&rt, "records")?;
+    run(&rt, "histories")?;
+    run(&rt, "eve")?;
+    run(&rt, "winter")
 }

@@ -1,46 +1,47 @@
 // Texts, numbers and answers on standard output.
 use ledger::Answer;
 use refusals::Refusal;
+use std::io;
 
-pub(crate) fn put(text: &[u8]) {
-    io::write_all(libc::STDOUT_FILENO, text);
+pub(crate) fn put(rt: &impl Print, text: &[u8]) -> io::Result<()> {
+    rt.write_all(text)
 }
 
-pub(crate) fn put_number(n: u32) {
-    io::print_decimal(libc::STDOUT_FILENO, n as u64);
+pub(crate) fn put_number(rt: &impl Print, n: u32) -> io::Result<()> {
+    rt.print(n)
 }
 
 // A text, and a number after it.
-pub(crate) fn put_with(text: &[u8], n: u32) {
-    put(text);
-    put_number(n);
+pub(crate) fn put_with(rt: &impl Print, text: &[u8], n: u32) -> io::Result<()> {
+    put(rt, text)?;
+    put_number(rt, n)
 }
 
 // A status by its letter.
-pub(crate) fn put_status(status: u8) {
+pub(crate) fn put_status(rt: &impl Print, status: u8) -> io::Result<()> {
     let letter = [b' ', status];
-    put(&letter);
+    put(rt, &letter)
 }
 
 // A refusal: its number and its place.
-pub(crate) fn put_refusal(r: Refusal) {
-    put_with(b"no ", refusals::number_of(r));
-    put_with(b" ", refusals::place_of(r));
+pub(crate) fn put_refusal(rt: &impl Print, r: Refusal) -> io::Result<()> {
+    put_with(rt, b"no ", refusals::number_of(r))?;
+    put_with(rt, b" ", refusals::place_of(r))
 }
 
 // What a filing answers: id, status and from-step.
-fn put_filed(id: u32, status: u8, from: u32) {
-    put_with(b"ok ", id);
-    put_status(status);
-    put_with(b" ", from);
+fn put_filed(rt: &impl Print, id: u32, status: u8, from: u32) -> io::Result<()> {
+    put_with(rt, b"ok ", id)?;
+    put_status(rt, status)?;
+    put_with(rt, b" ", from)
 }
 
 // What a call of demand 3's list answers.
-pub(crate) fn put_answer(answer: Answer) {
+pub(crate) fn put_answer(rt: &impl Print, answer: Answer) -> io::Result<()> {
     match answer {
-        Answer::Moved => put(b"ok"),
-        Answer::Held(n) => put_with(b"ok ", n),
-        Answer::Filed(id, status, from) => put_filed(id, status, from),
-        Answer::Refused(r) => put_refusal(r),
+        Answer::Moved => put(rt, b"ok"),
+        Answer::Held(n) => put_with(rt, b"ok ", n),
+        Answer::Filed(id, status, from) => put_filed(rt, id, status, from),
+        Answer::Refused(r) => put_refusal(rt, r),
     }
 }

@@ -5,6 +5,7 @@ use crate::questions::ask;
 use crate::words::{line_of, lines_in};
 use lists::bytes::byte_at;
 use register::Head;
+use std::io;
 
 // Whether a line's first letter says a call that may change the register.
 fn is_call(kind: u8) -> bool {
@@ -19,6 +20,7 @@ fn is_call(kind: u8) -> bool {
 
 // Makes a line's call and prints its answer. A line that asks, tells or is a title makes none.
 fn make_call(
+    rt: &impl Print,
     head: Head,
     statuses: &mut [u8; 256],
     ids: &mut [u32; 256],
@@ -29,17 +31,17 @@ fn make_call(
     approved: &mut [u16; 64],
     loads: &mut [[u16; 50]; 64],
     line: &[u8],
-) -> Head {
+) -> io::Result<Head> {
     if is_call(byte_at(line, 0)) {
         let reply = call(
             head, statuses, ids, keys, marks, rows, numbers, approved, loads, line,
         );
         let answer = reply.answer;
-        put(b": ");
-        put_answer(answer);
-        return reply.head;
+        put(rt, b": ")?;
+        put_answer(rt, answer)?;
+        return Ok(reply.head);
     }
-    head
+    Ok(head)
 }
 
 // A title begins a scenario, with a fresh register.
@@ -53,6 +55,7 @@ fn begun(head: Head, line: &[u8]) -> Head {
 
 // Prints a line, and what its call answers.
 fn run_line(
+    rt: &impl Print,
     head: Head,
     statuses: &mut [u8; 256],
     ids: &mut [u32; 256],
@@ -63,19 +66,20 @@ fn run_line(
     approved: &mut [u16; 64],
     loads: &mut [[u16; 50]; 64],
     line: &[u8],
-) -> Head {
-    put(line);
+) -> io::Result<Head> {
+    put(rt, line)?;
     let now = begun(head, line);
     ask(
-        now, &*statuses, &*ids, &*keys, &*marks, &*rows, &*numbers, &*loads, line,
-    );
+        rt, now, &*statuses, &*ids, &*keys, &*marks, &*rows, &*numbers, &*loads, line,
+    )?;
     make_call(
-        now, statuses, ids, keys, marks, rows, numbers, approved, loads, line,
+        rt, now, statuses, ids, keys, marks, rows, numbers, approved, loads, line,
     )
 }
 
 // Runs a text's lines one after another, on columns that the caller lends.
 pub(crate) fn run_lines(
+    rt: &impl Print,
     statuses: &mut [u8; 256],
     ids: &mut [u32; 256],
     keys: &mut [u32; 256],
@@ -85,13 +89,14 @@ pub(crate) fn run_lines(
     approved: &mut [u16; 64],
     loads: &mut [[u16; 50]; 64],
     text: &[u8],
-) {
+) -> io::Result<()> {
     let fresh = Head::fresh();
     let mut head = fresh.head;
     let n = lines_in(text);
     let mut k: u32 = 0;
     while k < n {
         let next = run_line(
+            rt,
             head,
             &mut *statuses,
             &mut *ids,
@@ -102,9 +107,10 @@ pub(crate) fn run_lines(
             &mut *approved,
             &mut *loads,
             line_of(text, k),
-        );
+        )?;
         head = next;
-        put(b"\n");
+        put(rt, b"\n")?;
         k += 1;
     }
+    Ok(())
 }
