@@ -30,8 +30,8 @@ gate() { # TITLE OUTPUT ERRORS CALLS
     cases=$((cases + 1))
 }
 
-needed=(rt cargo cc valgrind awk cmp diff find sed)
-gate "nothing is missing" '' '' 'rt ci\n'
+needed=(rt cargo cc valgrind awk cmp diff find grep sed)
+gate "nothing is missing" '0 passed, 1 failed\n' 'failed: rt ci\n' 'rt ci\n'
 for tool in "${needed[@]}"; do
     mv "$tools/$tool" "$work/away"
     gate "$tool is missing" '' "The gate needs commands that are not on the PATH: $tool.\n" ''
