@@ -1,6 +1,6 @@
 /* The reserve exchange register for C, over the proved static library register_c.
  *
- *     rt staticlib register_c
+ *     bash tests/static_library.bash
  *     cc -std=c11 -Wall -Wextra -Werror -I c program.c target/staticlib/libregister_c.a
  *
  * The caller holds the register: one struct, register_state, to which each call gets a pointer. register_fresh begins it, and calls go

@@ -1,6 +1,6 @@
 #!/usr/bin/env bash
 # The gate with a tool missing: one sentence names it, and no proof is begun. The gate runs with a PATH of links to all commands and with a
-# stand-in for rt that notes each call and fails, so that it never comes past its first test, and in a root of its own, whose log it writes.
+# stand-in for rt that notes each call and fails, so that it never comes past `rt ci`.
 set -euo pipefail
 cd "$(dirname "${BASH_SOURCE[0]}")/.."
 work=$(mktemp -d)
@@ -12,8 +12,6 @@ for place in "${places[@]}"; do
     ln -s "$place"/* "$tools" 2> /dev/null || true # the first of a name is the one that is found
 done
 rm -f "$tools/rt"
-mkdir -p "$work/root/.ci"
-cp .ci/run "$work/root/.ci"
 printf '#!/usr/bin/env bash\necho "rt $*" >> "%s/begun"\nexit 1\n' "$work" > "$tools/rt"
 chmod +x "$tools/rt"
 cases=0
@@ -22,7 +20,7 @@ cases=0
 gate() { # TITLE OUTPUT ERRORS CALLS
     local found=0
     : > "$work/begun"
-    env PATH="$tools" "$work/root/.ci/run" > "$work/output" 2> "$work/errors" < /dev/null || found=$?
+    env PATH="$tools" .ci/run > "$work/output" 2> "$work/errors" < /dev/null || found=$?
     if [[ $found -ne 1 ]] || ! cmp "$work/output" <(printf "$2") || ! cmp "$work/errors" <(printf "$3") \
         || ! cmp "$work/begun" <(printf "$4"); then
         echo "$1: not as expected, status $found" >&2
@@ -32,8 +30,8 @@ gate() { # TITLE OUTPUT ERRORS CALLS
     cases=$((cases + 1))
 }
 
-needed=(rt cargo cc valgrind awk cmp diff find sed)
-gate "nothing is missing" '' '' 'rt ci\n'
+needed=(rt cargo cc valgrind awk cmp diff find grep sed)
+gate "nothing is missing" '0 passed, 1 failed\n' 'failed: rt ci\n' 'rt ci\n'
 for tool in "${needed[@]}"; do
     mv "$tools/$tool" "$work/away"
     gate "$tool is missing" '' "The gate needs commands that are not on the PATH: $tool.\n" ''

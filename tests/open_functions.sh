@@ -17,8 +17,8 @@ done
 
 awk '
     /^ *pub (extern "C" )?fn / { open = 1; asks = 0; ensures = 0; place = FILENAME ":" FNR; line = $0 }
-    open && /(^| )requires( [a-z0-9_]+)? \{/ { asks = 1 }
-    open && /(^| )ensures( [a-z0-9_]+)? \{/ { ensures = 1 }
+    open && /(^| )requires\*?( [a-z0-9_]+)? \{/ { asks = 1 }
+    open && /(^| )ensures\*?( [a-z0-9_]+)? \{/ { ensures = 1 }
     open && (/^ *\{$/ || (!asks && !ensures && /\{$/)) {
         count++
         if (asks || !ensures) { print place ":" line; bad++ }

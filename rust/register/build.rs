@@ -1,4 +1,4 @@
-//! Links the static library that `tests/static_library.bash` makes.
+//! Links the static library that `tests/static_library.bash` writes.
 use std::path::Path;
 use std::process::exit;
 

@@ -22,10 +22,10 @@ pub written_of :
     (body-after ≡ written (write_verdict m (length name) (length body)) (body_of m) body)
 written_of e w said = rw (← e) (said ∙ ap flat_written w.answers, w.its_name, w.its_body)
 
-pub object-written-of :
+pub object_written_of :
     (buffer : List ℕ) {request m : Request} {after : List ℕ} {answer : RequestWritten} {r : ObjectWritten} → request ≡ m →
     (answer ≡ request_answer request (length buffer)) × (after ≡ written (request_verdict request (length buffer)) (object_text request) buffer) →
     r ≡ flat_object_written answer →
     (r ≡ flat_object_written (request_answer m (length buffer))) ×
     (after ≡ written (request_verdict m (length buffer)) (object_text m) buffer)
-object-written-of buffer e w said = rw (← e) (said ∙ ap flat_object_written w.0, w.1)
+object_written_of buffer e w said = rw (← e) (said ∙ ap flat_object_written w.0, w.1)

@@ -1,0 +1,5 @@
+use Rattle.register.proofs.Telling.{tells_done}
+use Rattle.register_c.proofs.calls.register_head_enrol_category.Goals as goal
+
+pub returns : goal.returns
+returns c = λ columns loads. tells_done c.turned.ensures (c.enrol_category-reply.ensures columns loads)
