@@ -1,14 +1,14 @@
 -- How a step is laid out: the tokens up to its labels and its power, one after another, and the step that is read at those places.
 use mathlib.Core.Path.{◌≡◌, refl, ap, ◌∙◌}
 use mathlib.Core.List.{List, [], ◌∷◌, ◌++◌}
-use mathlib.Core.Bool.{true}
+use mathlib.Core.Bool.{Bool, true, false}
 use Prim.Native.Nat.{ℕ, ◌+◌, ◌<◌, ◌≤◌}
 use native.Mathlib.Omega.{arith}
 use lib.Dec.{ltb}
 use lib.ListN.{length, get_or, drop}
 use borrow.Author.Tests.{lt-ltb}
 use Rattle.lists.specs.Searches.{every, same}
-use Rattle.lists.proofs.Tests.{and_true}
+use Rattle.lists.proofs.Tests.{true_false, and_true}
 use Rattle.lists.proofs.Searches.{same_true}
 use Rattle.notification.specs.Forms.{is_digit}
 use Rattle.reader.specs.declared.power.Power.{Power}
@@ -44,6 +44,10 @@ module _ (s : List ℕ) (b : ℕ) (m : is_mark b ≡ true) (name : List ℕ) (q 
       passed_on ((b ∷ []) ∷ []) (name ∷ (58 ∷ []) ∷ []) s at (mark + 1) from marked
       (passed_on (name ∷ []) ((58 ∷ []) ∷ []) s (mark + 1) (text + n) from named
       (passed_on ((58 ∷ []) ∷ []) [] s (text + n) (colon + 1) from closed (v4 closed.within)))
+
+-- where no layout was found, nothing is claimed of one
+pub no_claims : {A B : Type 0} (regular : Bool) → regular ≡ false → (regular ≡ true → A) × (regular ≡ true → B)
+no_claims regular e = (λ r. true_false regular r e, λ r. true_false regular r e)
 
 -- ---- a step by its own places
 

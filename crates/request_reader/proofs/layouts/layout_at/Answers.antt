@@ -1,7 +1,6 @@
 -- `layouts::layout_at` meets its contract: a mark, a name and a colon up to each label and up to the power, and nothing is claimed where one of
 -- them is missing.
 use mathlib.Core.Path.{refl, sym, ◌∙◌}
-use mathlib.Core.Bool.{false≢true}
 use Prim.Native.Nat.{◌+◌}
 use native.Mathlib.Omega.{arith}
 use borrow.Author.Tests.{leb-true}
@@ -11,7 +10,7 @@ use Rattle.request.specs.Objects.{from_name, until_name, power_name}
 use Rattle.request_reader.specs.Walking.{Passed, is_mark, is_quoted}
 use Rattle.request_reader.specs.Steps.{before_from, before_until, before_power}
 use Rattle.request_reader.proofs.Walks.{mark_inside}
-use Rattle.request_reader.proofs.StepLayouts.{text_inside, named_passed}
+use Rattle.request_reader.proofs.StepLayouts.{text_inside, named_passed, no_claims}
 use Rattle.request_reader.proofs.layouts.layout_at.Goals as goal
 use Rattle.request_reader.proofs.layouts.layout_at.Goals.{After-past_blanks-first, After-past_blanks-power, After-past_blanks-second}
 
@@ -42,7 +41,7 @@ to_power c =
     c.past_blanks-power_colon.ensures.past c.past_blanks-power_colon.ensures.passed (sym c.byte_at-6.ensures ∙ c.if-byte_at-ne58-3.false) c.past_blanks-power.ensures.passed
 
 pub returns-then-byte_at-ne123 : goal.returns-then-byte_at-ne123
-returns-then-byte_at-ne123 c = record { laid_out = λ e. absurd (false≢true (sym c.no_layout-none.ensures ∙ e)); power_in_bounds = λ e. absurd (false≢true (sym c.no_layout-none.ensures ∙ e)) }
+returns-then-byte_at-ne123 c = record { laid_out = (no_claims {B = Unit {0}} _ c.no_layout-none.ensures).0; power_in_bounds = (no_claims {A = Unit {0}} _ c.no_layout-none.ensures).1 }
 
 pub overflow_add-open : goal.overflow_add-open
 unfolding is_mark
@@ -55,7 +54,7 @@ overflow_add-open c =
     )
 
 pub returns-then-not-stands : goal.returns-then-not-stands
-returns-then-not-stands c = record { laid_out = λ e. absurd (false≢true (sym c.no_layout-none.ensures ∙ e)); power_in_bounds = λ e. absurd (false≢true (sym c.no_layout-none.ensures ∙ e)) }
+returns-then-not-stands c = record { laid_out = (no_claims {B = Unit {0}} _ c.no_layout-none.ensures).0; power_in_bounds = (no_claims {A = Unit {0}} _ c.no_layout-none.ensures).1 }
 
 pub overflow_add-debut : goal.overflow_add-debut
 unfolding is_quoted same
@@ -68,7 +67,7 @@ overflow_add-debut c =
     )
 
 pub returns-then-byte_at-ne58 : goal.returns-then-byte_at-ne58
-returns-then-byte_at-ne58 c = record { laid_out = λ e. absurd (false≢true (sym c.no_layout-none.ensures ∙ e)); power_in_bounds = λ e. absurd (false≢true (sym c.no_layout-none.ensures ∙ e)) }
+returns-then-byte_at-ne58 c = record { laid_out = (no_claims {B = Unit {0}} _ c.no_layout-none.ensures).0; power_in_bounds = (no_claims {A = Unit {0}} _ c.no_layout-none.ensures).1 }
 
 pub overflow_add-debut_colon : goal.overflow_add-debut_colon
 unfolding is_mark
@@ -84,13 +83,13 @@ pub is_five-requires : goal.is_five-requires
 is_five-requires c = (to_from c).within
 
 pub returns-then-not-is_five : goal.returns-then-not-is_five
-returns-then-not-is_five c = record { laid_out = λ e. absurd (false≢true (sym c.no_layout-none.ensures ∙ e)); power_in_bounds = λ e. absurd (false≢true (sym c.no_layout-none.ensures ∙ e)) }
+returns-then-not-is_five c = record { laid_out = (no_claims {B = Unit {0}} _ c.no_layout-none.ensures).0; power_in_bounds = (no_claims {A = Unit {0}} _ c.no_layout-none.ensures).1 }
 
 pub overflow_add-first : goal.overflow_add-first
 overflow_add-first c = omega (arith, c.requires, (to_from (goal.at.overflow_add-first c).After-past_blanks-first).within)
 
 pub returns-then-byte_at-ne44 : goal.returns-then-byte_at-ne44
-returns-then-byte_at-ne44 c = record { laid_out = λ e. absurd (false≢true (sym c.no_layout-none.ensures ∙ e)); power_in_bounds = λ e. absurd (false≢true (sym c.no_layout-none.ensures ∙ e)) }
+returns-then-byte_at-ne44 c = record { laid_out = (no_claims {B = Unit {0}} _ c.no_layout-none.ensures).0; power_in_bounds = (no_claims {A = Unit {0}} _ c.no_layout-none.ensures).1 }
 
 pub overflow_add-fin_comma : goal.overflow_add-fin_comma
 unfolding is_mark
@@ -103,7 +102,7 @@ overflow_add-fin_comma c =
     )
 
 pub returns-then-not-stands-2 : goal.returns-then-not-stands-2
-returns-then-not-stands-2 c = record { laid_out = λ e. absurd (false≢true (sym c.no_layout-none.ensures ∙ e)); power_in_bounds = λ e. absurd (false≢true (sym c.no_layout-none.ensures ∙ e)) }
+returns-then-not-stands-2 c = record { laid_out = (no_claims {B = Unit {0}} _ c.no_layout-none.ensures).0; power_in_bounds = (no_claims {A = Unit {0}} _ c.no_layout-none.ensures).1 }
 
 pub overflow_add-fin : goal.overflow_add-fin
 unfolding is_quoted same
@@ -116,7 +115,7 @@ overflow_add-fin c =
     )
 
 pub returns-then-byte_at-ne58-2 : goal.returns-then-byte_at-ne58-2
-returns-then-byte_at-ne58-2 c = record { laid_out = λ e. absurd (false≢true (sym c.no_layout-none.ensures ∙ e)); power_in_bounds = λ e. absurd (false≢true (sym c.no_layout-none.ensures ∙ e)) }
+returns-then-byte_at-ne58-2 c = record { laid_out = (no_claims {B = Unit {0}} _ c.no_layout-none.ensures).0; power_in_bounds = (no_claims {A = Unit {0}} _ c.no_layout-none.ensures).1 }
 
 pub overflow_add-fin_colon : goal.overflow_add-fin_colon
 unfolding is_mark
@@ -132,13 +131,13 @@ pub is_five-requires-2 : goal.is_five-requires-2
 is_five-requires-2 c = (to_until c).within
 
 pub returns-then-not-is_five-2 : goal.returns-then-not-is_five-2
-returns-then-not-is_five-2 c = record { laid_out = λ e. absurd (false≢true (sym c.no_layout-none.ensures ∙ e)); power_in_bounds = λ e. absurd (false≢true (sym c.no_layout-none.ensures ∙ e)) }
+returns-then-not-is_five-2 c = record { laid_out = (no_claims {B = Unit {0}} _ c.no_layout-none.ensures).0; power_in_bounds = (no_claims {A = Unit {0}} _ c.no_layout-none.ensures).1 }
 
 pub overflow_add-second : goal.overflow_add-second
 overflow_add-second c = omega (arith, c.requires, (to_until (goal.at.overflow_add-second c).After-past_blanks-second).within)
 
 pub returns-then-byte_at-ne44-2 : goal.returns-then-byte_at-ne44-2
-returns-then-byte_at-ne44-2 c = record { laid_out = λ e. absurd (false≢true (sym c.no_layout-none.ensures ∙ e)); power_in_bounds = λ e. absurd (false≢true (sym c.no_layout-none.ensures ∙ e)) }
+returns-then-byte_at-ne44-2 c = record { laid_out = (no_claims {B = Unit {0}} _ c.no_layout-none.ensures).0; power_in_bounds = (no_claims {A = Unit {0}} _ c.no_layout-none.ensures).1 }
 
 pub overflow_add-power_comma : goal.overflow_add-power_comma
 unfolding is_mark
@@ -151,7 +150,7 @@ overflow_add-power_comma c =
     )
 
 pub returns-then-not-stands-3 : goal.returns-then-not-stands-3
-returns-then-not-stands-3 c = record { laid_out = λ e. absurd (false≢true (sym c.no_layout-none.ensures ∙ e)); power_in_bounds = λ e. absurd (false≢true (sym c.no_layout-none.ensures ∙ e)) }
+returns-then-not-stands-3 c = record { laid_out = (no_claims {B = Unit {0}} _ c.no_layout-none.ensures).0; power_in_bounds = (no_claims {A = Unit {0}} _ c.no_layout-none.ensures).1 }
 
 pub overflow_add-puissance : goal.overflow_add-puissance
 unfolding is_quoted same
@@ -164,7 +163,7 @@ overflow_add-puissance c =
     )
 
 pub returns-then-byte_at-ne58-3 : goal.returns-then-byte_at-ne58-3
-returns-then-byte_at-ne58-3 c = record { laid_out = λ e. absurd (false≢true (sym c.no_layout-none.ensures ∙ e)); power_in_bounds = λ e. absurd (false≢true (sym c.no_layout-none.ensures ∙ e)) }
+returns-then-byte_at-ne58-3 c = record { laid_out = (no_claims {B = Unit {0}} _ c.no_layout-none.ensures).0; power_in_bounds = (no_claims {A = Unit {0}} _ c.no_layout-none.ensures).1 }
 
 pub overflow_add-power_colon : goal.overflow_add-power_colon
 unfolding is_mark
