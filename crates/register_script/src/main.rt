@@ -1,5 +1,6 @@
-// The script program (document 01, "The script program"): standard input in, a line for each line out. Which lines there
-// are, what they ask and what they are answered is in the crates lines, session and script; here bytes are only moved.
+// The script program (document 01, "The script program"): standard input in, a line for each line out. Which lines
+// there are, what they ask and what they are answered is in the crates lines, session and script; here bytes are only
+// moved.
 // What Rattle has no form for is in c/register_script.c, which is linked with this.
 #![tactic(auto)]
 

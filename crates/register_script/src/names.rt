@@ -3,9 +3,9 @@ use std::alloc::{AllocError, Global};
 use std::fs::File;
 use std::{io, str};
 
-// A name that isn't UTF-8 is asked for behind this, each byte as the character of its number. There can be no such file,
-// as /dev/null is no directory, and no line names one, as a comma ends a field: c/register_script.c opens the file of
-// those bytes in its place.
+// A name that isn't UTF-8 is asked for behind this, each byte as the character of its number. There can be no such
+// file, as /dev/null is no directory, and no line names one, as a comma ends a field: c/register_script.c opens the
+// file of those bytes in its place.
 const MARK: &str = "/dev/null/,";
 
 fn marked(alloc: Global, name: &[u8]) -> Result<String, AllocError> {

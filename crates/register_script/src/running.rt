@@ -17,8 +17,8 @@ const UNWRITTEN: u32 = 1;
 const UNREAD: u32 = 2;
 
 // Answers standard input to its end, from a register on. Answers are written where there is no room for more, and
-// before more input is awaited. A proved loop has to end, and nothing says that input does: so the turns are counted, up
-// to a number that no run uses up.
+// before more input is awaited. A proved loop has to end, and nothing says that input does: so the turns are counted,
+// up to a number that no run uses up.
 pub(crate) fn run(
     rt: &HostRuntime,
     head: Head,
