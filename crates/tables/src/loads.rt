@@ -9,6 +9,14 @@ ghost use Rattle.tables.specs.Passing.{bits_from, last_load, load_row, load_most
 // The places for loads.
 pub const LOADS: u32 = 64;
 
+// The loads' columns, as they are read.
+#[derive(Clone, Copy)]
+pub struct Loads<'a> {
+    pub numbers: &'a [u32; 64],
+    pub approved: &'a [u16; 64],
+    pub rows: &'a [[u16; 50]; 64],
+}
+
 // Actor, category and day of a load as one number: places and days in their ranges, so that no two have the same.
 pub fn load_number(actor: u32, category: u32, day: u32) -> u32
     requires { (actor < 8) × (category < 4) × (day < 36525) }
