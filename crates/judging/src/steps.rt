@@ -6,10 +6,9 @@ ghost use Rattle.judging.specs.Nets.{most};
 ghost use Rattle.judging.specs.Steps.{below_at, step_fits, net_tests};
 
 use crate::nets::{BASE, Nets};
-use lists::numbers::wide;
 use refusals::trying::try_at;
 use refusals::{StateRefusal, Verdict};
-use std::num::wrapping_sub_u32;
+use std::array;
 
 // The first of the steps from `first` to before `until` at which one number is below another; `until` where there is
 // none.
@@ -17,17 +16,12 @@ fn first_below(left: [u32; 50], right: [u32; 50], first: u32, until: u32) -> u32
     requires { (first ≤ until) × (until ≤ 50) }
     ensures { result ≡ first_from (below_at left right) first (until - first) }
 {
-    let mut s = first;
-    let found = loop {
-        if until <= s {
-            break until;
-        }
+    for s in first..until {
         if left[s as usize] < right[s as usize] {
-            break s;
+            return s;
         }
-        s += 1;
-    };
-    found
+    }
+    until
 }
 
 // A number and the power at each step.
@@ -35,13 +29,7 @@ fn plus(n: u32, ps: [u16; 50]) -> [u32; 50]
     requires { n ≤ 4294901760 }
     ensures { (s : ℕ) → s < 50 → slice_index result s ≡ n + slice_index ps s }
 {
-    let mut sums = [n; 50];
-    let mut s: usize = 0;
-    while s < 50 {
-        sums[s] = n + wide(ps[s]);
-        s += 1;
-    }
-    sums
+    ps.map(|p| n + u32::from(p))
 }
 
 // A net and the power at each step.
@@ -49,13 +37,7 @@ fn sums(net: [u32; 50], ps: [u16; 50]) -> [u32; 50]
     requires { (s : ℕ) → s < 50 → slice_index net s ≤ most }
     ensures { (s : ℕ) → s < 50 → slice_index result s ≡ slice_index net s + slice_index ps s }
 {
-    let mut sums = net;
-    let mut s: usize = 0;
-    while s < 50 {
-        sums[s] = net[s] + wide(ps[s]);
-        s += 1;
-    }
-    sums
+    array::from_fn(|s| net[s] + u32::from(ps[s]))
 }
 
 // 32 to 35, each looked for at all counted steps before the next.
@@ -90,7 +72,7 @@ fn is_from(x: u32, least: u32, more: u32) -> bool
     requires { (least ≤ 4294901760) × (more ≤ 65535) }
     ensures { result ≡ (nat_le least x && nat_le x (least + more)) }
 {
-    wrapping_sub_u32(x, least) <= more
+    x.wrapping_sub(least) <= more
 }
 
 // Whether a step passes 32 to 35: with the filed power moved, ceder and acquirer have from 0 to their approved power.
@@ -118,11 +100,15 @@ fn all_fit(
         ceders acquirers ≡ true }
 {
     let mut failed = false;
-    let mut s = first;
-    while s < until {
+    for s in first..until {
         let at = s as usize;
-        failed = failed | !fits(ceder[at], acquirer[at], wide(ps[at]), ceders, acquirers);
-        s += 1;
+        failed |= !fits(
+            ceder[at],
+            acquirer[at],
+            u32::from(ps[at]),
+            ceders,
+            acquirers,
+        );
     }
     !failed
 }
