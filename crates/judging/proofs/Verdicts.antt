@@ -29,15 +29,6 @@ then_checked first until h i r left right f g l m s e u v w t p =
 
 -- ---- where every step fits, no check fails
 
--- one step more that fits, while the steps passed all fit
-pub fit_more : (p : ℕ → Bool) (first s : ℕ) (x failed : Bool) → x ≡ p s → (failed ≡ false → (j : ℕ) → first ≤ j → j < s → p j ≡ true) →
-    (failed || not x) ≡ false → (j : ℕ) → first ≤ j → j < s + 1 → p j ≡ true
-fit_more p first s x failed e f t j h l = go (ℕ_discrete j s)
-  where
-    go : Dec (j ≡ s) → p j ≡ true
-    go (yes q) = ap p q ∙ (sym e ∙ not-false x (or_right failed (not x) t))
-    go (no ne) = f (or_left failed (not x) t) j h (omega arith)
-
 -- the four checks of a step that fits
 abbrev Passes : (c a p ceders acquirers : ℕ) → Type 0
 Passes c a p ceders acquirers =
