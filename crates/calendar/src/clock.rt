@@ -6,8 +6,8 @@ ghost use Rattle.calendar.specs.Clocks.{is_before, advanced};
 
 use crate::steps::{STEP_MINUTES, steps_of};
 use lists::numbers::least;
-use refusals::trying::{try_input, try_state};
-use refusals::{InputRefusal, Refusal, StateRefusal, Verdict};
+use refusals::trying::refuse_if;
+use refusals::{InputRefusal, Refusal, StateRefusal};
 
 // The steps that the neutral hour takes from the clock's own on: the one that runs, and the next, past midnight too.
 const NEUTRAL_STEPS: u32 = 2;
@@ -18,13 +18,6 @@ const NEUTRAL_STEPS: u32 = 2;
 pub struct Clock {
     pub day: u32,
     pub minute: u32,
-}
-
-// What comes of moving the clock: the clock at the new moment, or a refusal.
-#[derive(Clone, Copy)]
-pub enum Advance {
-    Moved(Clock),
-    Refused(Refusal),
 }
 
 impl Clock {
@@ -90,14 +83,12 @@ impl Clock {
     }
 
     // The clock at a later moment, or at the same one: 10, 38.
-    pub fn advanced(self, to: Clock) -> Advance
+    #[tactic(auto, unfolding(crate::specs::Clocks::advanced))]
+    pub fn advanced(self, to: Clock) -> Result<Clock, Refusal>
         ensures { result ≡ advanced self to }
     {
-        let v = try_input(Verdict::Pass, !to.is_moment(), InputRefusal::Range);
-        let v = try_state(v, to.is_before(self), StateRefusal::Back);
-        match v {
-            Verdict::Pass => Advance::Moved(to),
-            Verdict::No(r) => Advance::Refused(r),
-        }
+        refuse_if(!to.is_moment(), InputRefusal::Range)?;
+        refuse_if(to.is_before(self), StateRefusal::Back)?;
+        Ok(to)
     }
 }

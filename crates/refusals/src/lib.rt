@@ -85,13 +85,6 @@ pub enum Refusal {
     State(StateRefusal, u32),
 }
 
-// What a list of tests comes to.
-#[derive(Clone, Copy)]
-pub enum Verdict {
-    Pass,
-    No(Refusal),
-}
-
 fn input_number(f: InputRefusal) -> u32
     ensures { result ≡ input_number f }
 {
