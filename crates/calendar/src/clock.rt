@@ -5,7 +5,6 @@ ghost use Rattle.calendar.specs.Clocks.{fresh_clock, first_counted, counts, repl
 ghost use Rattle.calendar.specs.Clocks.{is_before, advanced};
 
 use crate::steps::{STEP_MINUTES, steps_of};
-use lists::numbers::least;
 use refusals::trying::refuse_if;
 use refusals::{InputRefusal, Refusal, StateRefusal};
 
@@ -14,7 +13,7 @@ const NEUTRAL_STEPS: u32 = 2;
 
 // A day and the minutes elapsed since its local midnight.
 #[repr(C)]
-#[derive(Clone, Copy)]
+#[derive(Clone, Copy, PartialEq, Eq, PartialOrd, Ord)]
 pub struct Clock {
     pub day: u32,
     pub minute: u32,
@@ -40,7 +39,7 @@ impl Clock {
             return 0;
         }
         let steps = steps_of(self.day);
-        after - least(after, steps)
+        after.saturating_sub(steps)
     }
 
     // Whether a step of a day counts.
@@ -79,7 +78,7 @@ impl Clock {
     pub fn is_before(self, other: Clock) -> bool
         ensures { result ≡ is_before self other }
     {
-        (self.day < other.day) | ((self.day == other.day) & (self.minute < other.minute))
+        self < other
     }
 
     // The clock at a later moment, or at the same one: 10, 38.

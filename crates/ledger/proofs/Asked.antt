@@ -1,5 +1,7 @@
 -- The read-only calls, computed: each answer and each refusal (document 01, "The ledger", "Calls"). The first actor exchanges 40 with the
 -- second, which cedes 30 of it on to the third; the fourth is no party to anything.
+use Rattle.refusals.specs.declared.Refusal.{Refusal}
+use Rattle.std.specs.Prelude.{Result}
 use mathlib.Core.Path.{◌≡◌, refl}
 use mathlib.Core.List.{List, [], ◌∷◌}
 use Prim.Native.Nat.{ℕ}
@@ -8,8 +10,7 @@ use Rattle.lists.specs.Orders.{kept, put_by, order_by}
 use Rattle.calendar.specs.Dates.{date, tomorrow, number, valid, month_length, leap_days, before_year, before_month}
 use Rattle.calendar.specs.Steps.{steps_of, last_sunday}
 use Rattle.calendar.specs.Clocks.{first_counted, replaces_whole, loadable}
-use Rattle.refusals.specs.Tests.{input, state}
-use Rattle.refusals.specs.declared.Verdict.TheVariants.{Pass}
+use Rattle.refusals.specs.Tests.{input, state, pass}
 use Rattle.refusals.specs.declared.InputRefusal.TheVariants.{Range}
 use Rattle.refusals.specs.declared.StateRefusal.TheVariants.{ActorUnknown, CategoryUnknown, NoRecord, NotAsker, Full}
 use Rattle.notification.specs.Forms.{is_code, is_category, category_text, in_places}
@@ -19,7 +20,6 @@ use Rattle.ledger.specs.Ledger.{Ledger, actor_at, category_at, has_load, loaded,
 use Rattle.ledger.specs.Filing.{key_of, ceder_below, acquirer_above, ceder_above, acquirer_below, same_powers, pairs, next_id, filed, party_tests, day_tests, load_test, step_tests, place_tests}
 use Rattle.ledger.specs.Calls.{actor_tests, category_tests, load_ranged, load_tests, verdict_of, effect, step_note, step, file_at}
 use Rattle.ledger.specs.Asking.{engagement_tests, engaged_at, ask_engagement, record_at, record_tests, not_shown, ask_record, in_order, ids_of, history_tests, ask_history, history_in}
-use Rattle.ledger.specs.declared.Engaged.{Engaged}
 use Rattle.ledger.specs.declared.Shown.{Shown}
 use Rattle.ledger.specs.declared.Listed.TheVariants as Listed
 use Rattle.ledger.proofs.Examples.{eic, first, second, third, category, plain_day, short_day, long_day, enters, note_with, note, exchange, three, ceded_on}
@@ -34,13 +34,13 @@ unfoldable pub held : Ledger
 held = (step ceded_on (enrol_actor fourth 0 36524)).ledger
 
 -- the engagement of the second actor at a step of a day
-unfoldable pub engaged : ℕ → ℕ → Engaged
+unfoldable pub engaged : ℕ → ℕ → Result ℕ Refusal
 engaged day s = ask_engagement held second category day s
 
 -- the record of the exchange of 40: who filed it, and what became of it
 unfoldable pub exchanged : List ℕ → ℕ → Shown
 exchanged by status =
-    record { verdict = Pass; submitter = by; notification = note first second plain_day 40; status = status; from = 0; until = 48 }
+    record { verdict = pass; submitter = by; notification = note first second plain_day 40; status = status; from = 0; until = 48 }
 
 pub record Answers : Type 0 where
   -- "an actor's own engagement at a step"; "10: a .. step .. is outside its range"

@@ -1,5 +1,8 @@
 -- Each refusal of enrolling, loading and advancing met in a computed answer, with its near miss accepted (document 01, "The ledger",
 -- "Refusals that come from the input", "Refusals that come from the state").
+use Rattle.refusals.specs.declared.Refusal.{Refusal}
+use Rattle.ledger.specs.declared.Answer.{Answer}
+use Rattle.std.specs.Prelude.{Result}
 use mathlib.Core.Path.{◌≡◌, refl}
 use mathlib.Core.List.{List, [], ◌∷◌, ◌++◌}
 use Prim.Native.Nat.{ℕ}
@@ -13,7 +16,6 @@ use Rattle.ledger.specs.Call.{Call, enrol_actor, enrol_category, load, advance}
 use Rattle.ledger.specs.Ledger.{Ledger, actor_at, category_at, has_load}
 use Rattle.ledger.specs.Filing.{nobody}
 use Rattle.ledger.specs.Calls.{moment, actor_tests, category_tests, load_ranged, load_tests, verdict_of, effect, step}
-use Rattle.ledger.specs.declared.Answer.{Answer}
 use Rattle.ledger.specs.declared.Answer.TheVariants.{Moved, Held}
 use Rattle.ledger.proofs.Examples.{eic, first, second, category, plain_day, short_day, long_day}
 use Rattle.ledger.proofs.Filings.{refusal}
@@ -47,7 +49,7 @@ unfoldable pub later : ℕ → Ledger
 later minute = (step one (advance plain_day minute)).ledger
 
 -- a call's answer, and number and place of its refusal
-unfoldable pub answer : Ledger → Call → Answer
+unfoldable pub answer : Ledger → Call → Result Answer Refusal
 answer l c = (step l c).answer
 
 abbrev refused : Ledger → Call → ℕ × ℕ

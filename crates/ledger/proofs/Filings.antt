@@ -1,5 +1,8 @@
 -- Each refusal of a filing met in a computed answer, with its near miss accepted (document 01, "Refusals that come from the state"). 28,
 -- 34 and 35 are in Examples.antt.
+use Rattle.refusals.specs.declared.Refusal.{Refusal}
+use Rattle.ledger.specs.declared.Answer.{Answer}
+use Rattle.std.specs.Prelude.{Err, Result}
 use mathlib.Core.Path.{◌≡◌, refl}
 use mathlib.Core.List.{List, [], ◌∷◌, ◌++◌}
 use Prim.Native.Nat.{ℕ}
@@ -19,23 +22,22 @@ use Rattle.ledger.specs.Filing.{key_of, ceder_below, acquirer_above, ceder_above
 use Rattle.ledger.specs.Calls.{with_records, actor_tests, category_tests, load_ranged, load_tests, verdict_of, effect, step_note, step, file_at}
 use Rattle.ledger.specs.Asking.{no_record}
 use Rattle.ledger.specs.Whole.{after}
-use Rattle.ledger.specs.declared.Answer.{Answer}
-use Rattle.ledger.specs.declared.Answer.TheVariants.{Moved, Held, Filed, Refused}
+use Rattle.ledger.specs.declared.Answer.TheVariants.{Moved, Held, Filed}
 use Rattle.ledger.proofs.Examples.{eic, first, second, third, category, plain_day, enters, note_with, note, two, three}
 
 -- number and place of a refusal; 0 and 0 where a call is accepted
-abbrev pub refusal : Answer → ℕ × ℕ
+abbrev pub refusal : Result Answer Refusal → ℕ × ℕ
 refusal Moved = (0, 0)
 refusal (Held n) = (0, 0)
 refusal (Filed id status from) = (0, 0)
-refusal (Refused r) = (Numbers.number_of r, Numbers.place_of r)
+refusal (Err r) = (Numbers.number_of r, Numbers.place_of r)
 
 -- an actor files one power for every step
-unfoldable pub files : Ledger → List ℕ → List ℕ → List ℕ → ℕ → ℕ → Answer
+unfoldable pub files : Ledger → List ℕ → List ℕ → List ℕ → ℕ → ℕ → Result Answer Refusal
 files l by ceder acquirer day p = (step_note l SevenDays by (note ceder acquirer day p)).answer
 
 -- the ceder files powers for its exchange with the second actor
-unfoldable pub files_powers : Ledger → List ℕ → Answer
+unfoldable pub files_powers : Ledger → List ℕ → Result Answer Refusal
 files_powers l ps = (step_note l SevenDays first (note_with first second plain_day ps)).answer
 
 -- the first actor with 60 of 100 for a day, the second with 0 of 100, by their contracts; the clock stands at the start of day 10
@@ -57,7 +59,7 @@ abbrev short : ℕ × ℕ
 short = (12, 14)
 
 -- what the ceder's filing is answered where it, the acquirer or both have a contract from day 12 to day 14
-unfoldable pub in_days : ℕ × ℕ → ℕ × ℕ → ℕ → Answer
+unfoldable pub in_days : ℕ × ℕ → ℕ × ℕ → ℕ → Result Answer Refusal
 in_days a b day = files (contracted a b day) first first second day 40
 
 -- the ceder has 100 at the first ten steps and 30 from there on, the acquirer 0 of 50

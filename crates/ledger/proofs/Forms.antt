@@ -5,8 +5,7 @@ use mathlib.Core.List.{List}
 use Prim.Native.Nat.{ℕ}
 use lib.ListN.{length}
 use Rattle.lists.proofs.Searches.{same_refl}
-use Rattle.refusals.specs.Tests.{first_met, decide}
-use Rattle.refusals.specs.declared.Verdict.TheVariants.{Pass}
+use Rattle.refusals.specs.Tests.{first_met, decide, pass}
 use Rattle.notification.specs.Forms.{places}
 use Rattle.notification.specs.Writing.{name_of, body_of}
 use Rattle.notification.specs.Reading.{accepted}
@@ -35,7 +34,7 @@ module _ (l : Ledger) (entry : Entry) where
 
   -- a request that can be written, filed by its origin: its object does what the file of its notification does
   module _ (r : Request) (six : length r.notification.key.category ≡ 6) (fifty : length r.notification.powers ≡ places)
-      (passes : first_met (request_tests r) ≡ Pass) where
+      (passes : first_met (request_tests r) ≡ pass) where
     abbrev object : Form
     object = json (object_text r)
 
@@ -48,7 +47,7 @@ module _ (l : Ledger) (entry : Entry) where
         let e = written_read r six fifty passes in
         ap filed_in
         (from_own r.origin (object_text r) (ap (λ (x : RequestRead). x.verdict) e) (rw e (same_refl r.origin))
-        ∙ ap (λ (x : RequestRead). record { verdict = Pass; request = x.request }) e)
+        ∙ ap (λ (x : RequestRead). record { verdict = pass; request = x.request }) e)
 
     file_read : read_form r.origin its_file ≡ accepted r.notification
     unfolding read_form

@@ -1,5 +1,6 @@
 -- "Order" of document 01 and document 02, K3, for every ledger and all arguments: the numbers of the tests of each call, in the order in
 -- which they are tried, each with its place. The first test that is met refuses (`first_met`).
+use Rattle.std.specs.Prelude.{Err}
 use mathlib.Core.Path.{◌≡◌, refl, sym}
 use mathlib.Core.Bool.{Bool, cond, not}
 use mathlib.Core.List.{List, [], ◌∷◌, ◌++◌}
@@ -10,10 +11,8 @@ use Rattle.calendar.specs.Steps.{steps_of}
 use Rattle.calendar.specs.Clocks.{first_counted, advance_tests}
 use Rattle.calendar.specs.declared.clock.Clock.{Clock}
 use Rattle.refusals.specs.Numbers.{number_of, place_of}
-use Rattle.refusals.specs.Tests.{Test, input, first_met, decide}
+use Rattle.refusals.specs.Tests.{Test, input, first_met, decide, Verdict, pass}
 use Rattle.refusals.specs.declared.InputRefusal.TheVariants.{Origin}
-use Rattle.refusals.specs.declared.Verdict.{Verdict}
-use Rattle.refusals.specs.declared.Verdict.TheVariants.{Pass, No}
 use Rattle.refusals.proofs.Tests.{pass_append, refuse_append}
 use Rattle.refusals.proofs.Tables.{rows, unplaced}
 use Rattle.notification.specs.Reading.{file_tests, note_in, accepted, refused, read_file}
@@ -69,12 +68,12 @@ module _ (l : Ledger) where
   -- a form is read by its tests, whatever they are: these and then the filing's are one list
   read_then_filing : (entry : Entry) (submitter : List ℕ) (tests : List Test) (read : Verdict → Reading) →
       ((v : Verdict) → (read v).verdict ≡ v) → (v : Verdict) → first_met tests ≡ v →
-      decide (read v).verdict (first_met (filing_tests l entry submitter (read v).notification)) No
-      ≡ first_met (tests ++ filing_tests l entry submitter (read Pass).notification)
-  read_then_filing entry submitter tests read same Pass e =
-      rw (same Pass) (sym (pass_append tests (filing_tests l entry submitter (read Pass).notification) e))
-  read_then_filing entry submitter tests read same (No r) e =
-      rw (same (No r)) (sym (refuse_append r tests (filing_tests l entry submitter (read Pass).notification) e))
+      decide (read v).verdict (first_met (filing_tests l entry submitter (read v).notification)) Err
+      ≡ first_met (tests ++ filing_tests l entry submitter (read pass).notification)
+  read_then_filing entry submitter tests read same pass e =
+      rw (same pass) (sym (pass_append tests (filing_tests l entry submitter (read pass).notification) e))
+  read_then_filing entry submitter tests read same (Err r) e =
+      rw (same (Err r)) (sym (refuse_append r tests (filing_tests l entry submitter (read pass).notification) e))
 
   -- "filing 1 to 8, then 20 to 36": the file's tests and then the filing's are one list
   pub file_then_filing : (entry : Entry) (submitter name body : List ℕ) →
@@ -85,8 +84,8 @@ module _ (l : Ledger) where
       (first_met (file_tests name body)) refl
     where
       same : (v : Verdict) → (decide v (accepted (note_in name body)) refused).verdict ≡ v
-      same Pass = refl
-      same (No r) = refl
+      same (Ok u) = refl
+      same (Err r) = refl
 
   -- the same of an object: its tests, 43, and then the filing's
   pub object_then_filing : (entry : Entry) (submitter body : List ℕ) →
@@ -98,8 +97,8 @@ module _ (l : Ledger) where
       (first_met (origin_tests submitter body)) refl
     where
       same : (v : Verdict) → (filed_in (decide v (Object.accepted (request_in (tokens body))) Object.refused)).verdict ≡ v
-      same Pass = refl
-      same (No r) = refl
+      same (Ok u) = refl
+      same (Err r) = refl
 
   -- "Enrol 9, 10, 37, 36": an actor; a category has nothing that 10 could refuse
   pub actor_order : (code : List ℕ) (first last : ℕ) → rows (actor_tests l code first last) ≡ unplaced (9 ∷ 10 ∷ 37 ∷ 36 ∷ [])

@@ -1,13 +1,12 @@
 -- What holds of a ledger after any call: it is enough to show it of each call that is accepted, with what the call has
 -- shown. A form is read first, and then its notification is judged.
+use Rattle.std.specs.Prelude.{Err}
 use mathlib.Core.Path.{◌≡◌, refl}
 use mathlib.Core.List.{List}
 use Prim.Native.Nat.{ℕ}
 use Rattle.calendar.specs.Clocks.{advance_tests}
-use Rattle.refusals.specs.Tests.{first_met, decide}
+use Rattle.refusals.specs.Tests.{first_met, decide, Verdict, pass}
 use Rattle.refusals.specs.declared.Refusal.{Refusal}
-use Rattle.refusals.specs.declared.Verdict.{Verdict}
-use Rattle.refusals.specs.declared.Verdict.TheVariants.{Pass, No}
 use Rattle.refusals.proofs.Tests.{decided}
 use Rattle.notification.specs.Forms.{in_places}
 use Rattle.notification.specs.declared.Notification.{Notification}
@@ -20,9 +19,9 @@ use Rattle.ledger.specs.Calls.{Outcome, actor_tests, category_tests, load_tests,
 use Rattle.ledger.proofs.Passed.{FilingOk, filing_ok, ActorOk, actor_ok, CategoryOk, category_ok, LoadOk, load_ok, AdvanceOk, advance_ok}
 
 -- two verdicts in turn
-in_turn : (v w : Verdict) (done : Outcome) (refused : Refusal → Outcome) → decide (decide v w No) done refused ≡ decide v (decide w done refused) refused
-in_turn Pass w done refused = refl
-in_turn (No r) w done refused = refl
+in_turn : (v w : Verdict) (done : Outcome) (refused : Refusal → Outcome) → decide (decide v w Err) done refused ≡ decide v (decide w done refused) refused
+in_turn (Ok u) w done refused = refl
+in_turn (Err r) w done refused = refl
 
 pub step_file : (l : Ledger) (entry : Entry) (u : List ℕ) (form : Form) →
     step l (file entry u form) ≡ decide (read_form u form).verdict (step_note l entry u (read_form u form).notification) (refused_by l)

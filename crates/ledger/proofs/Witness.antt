@@ -1,5 +1,6 @@
 -- What demand 3 speaks of happens: a list of calls in which each hypothesis of the theorem is met, with engagements other than
 -- the loaded powers and a next call that changes steps, though none that no longer counts.
+use Rattle.std.specs.Prelude.{Err}
 use mathlib.Core.Path.{◌≡◌, refl}
 use mathlib.Core.Bool.{true, false}
 use mathlib.Core.List.{List, [], ◌∷◌, ◌++◌}
@@ -26,7 +27,7 @@ use Rattle.ledger.specs.Calls.{actor_tests, category_tests, load_ranged, load_te
 use Rattle.ledger.specs.Asking.{engaged_at}
 use Rattle.ledger.specs.Reading.{Event, events, actors_of, categories_of, clock_of, loaded_of, approved_of, power_of, acquired_of, ceded_of}
 use Rattle.ledger.specs.Whole.{Asked, after, answers_to}
-use Rattle.ledger.specs.declared.Answer.TheVariants.{Moved, Held, Filed, Refused}
+use Rattle.ledger.specs.declared.Answer.TheVariants.{Moved, Held, Filed}
 use Rattle.ledger.proofs.Whole.{demand3}
 use Rattle.ledger.proofs.Examples.{eic, first, second, third, category, plain_day, enters, note_with, note}
 
@@ -73,7 +74,7 @@ pub record Met : Type 0 where
   pub still_counts : counts (clock_of (record { call = next; answer = (step reached next).answer } ∷ told)) plain_day 33 ≡ true
   pub changed : (pair reached 33 ≡ (20, 40)) × (pair (step reached next).ledger 33 ≡ (29, 31))
   -- a load for the clock's own day would change steps that no longer count: it is refused by 39
-  pub load_refused : (step reached (load third category plain_day 100 (replicate 48 50))).answer ≡ Refused (State LoadDay 0)
+  pub load_refused : (step reached (load third category plain_day 100 (replicate 48 50))).answer ≡ Err (State LoadDay 0)
   -- a call that moves the clock stops steps too
   pub stopped : counts (clock_of (record { call = advance plain_day 1068; answer = (step reached (advance plain_day 1068)).answer } ∷ told)) plain_day 36 ≡ false
 

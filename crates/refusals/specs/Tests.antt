@@ -33,6 +33,11 @@ abbrev pub decide : {A : Type 0} → Verdict → A → (Refusal → A) → A
 decide (Ok u) done refused = done
 decide (Err r) done refused = refused r
 
+-- whether what a call answers is a pass or a refusal
+abbrev pub verdict : {A : Type 0} → Result A Refusal → Verdict
+verdict (Ok x) = pass
+verdict (Err r) = Err r
+
 -- "Order": one test more, which is tried where those before it pass
 abbrev pub tried : Verdict → Test → Verdict
 tried v t = decide v (first_met (t ∷ [])) Err
