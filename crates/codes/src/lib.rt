@@ -11,7 +11,7 @@ use notification::forms::is_digit;
 fn is_letter(b: u8) -> bool
     ensures { result ≡ is_letter b }
 {
-    (b'A' <= b) & (b <= b'Z')
+    b.is_ascii_uppercase()
 }
 
 // The value of a character: 0 to 9 theirs, A to Z 10 to 35, a hyphen 36.

@@ -53,7 +53,7 @@ late = load third category plain_day 100 (replicate 48 50)
 
 pub record Met : Type 0 where
   pub accepted : answers_to fresh calls ≡
-      Held 1 ∷ Held 1 ∷ Held 1 ∷ Held 2 ∷ Held 2 ∷ Held 3 ∷ Moved ∷ Filed 1 created 0 ∷ Filed 2 validated 0 ∷ Moved ∷ Filed 3 created 1 ∷ Filed 4 validated 1 ∷ []
+      Ok (Held 1) ∷ Ok (Held 1) ∷ Ok (Held 1) ∷ Ok (Held 2) ∷ Ok (Held 2) ∷ Ok (Held 3) ∷ Ok Moved ∷ Ok (Filed 1 created 0) ∷ Ok (Filed 2 validated 0) ∷ Ok Moved ∷ Ok (Filed 3 created 1) ∷ Ok (Filed 4 validated 1) ∷ []
   -- the first exchange is P until step 1
   pub records : spans reached ≡ (validated, 1, 48) ∷ (answered, 1, 48) ∷ (updated, 0, 1) ∷ (answered, 0, 48) ∷ []
   -- step 0 of tomorrow no longer counts, step 1 does
@@ -67,7 +67,7 @@ pub record Met : Type 0 where
   pub at_midnight : ask_engagement (after reached (advance plain_day 0 ∷ [])) first category plain_day 0 ≡ Ok 20
   pub afterwards : ask_engagement (after reached (advance plain_day 0 ∷ advance plain_day 942 ∷ [])) second category plain_day 0 ≡ Ok 40
   -- a load of tomorrow passes at minute 1409; at minute 1410 it would change step 0, and 39 refuses it
-  pub load_passes : (step (after fresh evening) late).answer ≡ Held 3
+  pub load_passes : (step (after fresh evening) late).answer ≡ Ok (Held 3)
   pub load_refused : (step reached late).answer ≡ Err (State LoadDay 0)
 
 pub met : Met

@@ -1,6 +1,6 @@
 -- One exchange filed by one party as a file and by the other as an object, then replaced, each party by the other form: it is paired and
 -- replaced as if both had filed files. And what an object is refused by that names another origin.
-use Rattle.std.specs.Prelude.{Err}
+use Rattle.std.specs.Prelude.{Err, Ok}
 use mathlib.Core.Path.{◌≡◌, refl}
 use mathlib.Core.List.{List, [], ◌∷◌, ◌++◌}
 use Prim.Native.Nat.{ℕ}
@@ -61,9 +61,9 @@ unfoldable pub replaced : Ledger
 replaced = after agreed replacing
 
 pub record EitherForm : Type 0 where
-  pub paired : (step (step entered (filing first 40)).ledger (sending second second 40)).answer ≡ Filed 2 validated 0
+  pub paired : (step (step entered (filing first 40)).ledger (sending second second 40)).answer ≡ Ok (Filed 2 validated 0)
   pub moved_40 : pair agreed 33 ≡ (20, 40)
-  pub answers : answers_to agreed replacing ≡ Moved ∷ Filed 3 created 33 ∷ Filed 4 validated 33 ∷ []
+  pub answers : answers_to agreed replacing ≡ Ok Moved ∷ Ok (Filed 3 created 33) ∷ Ok (Filed 4 validated 33) ∷ []
   pub records : spans replaced ≡ (validated, 33, 48) ∷ (answered, 33, 48) ∷ (updated, 0, 33) ∷ (answered, 0, 48) ∷ []
   pub kept_40 : pair replaced 32 ≡ (20, 40)
   pub moved_31 : pair replaced 33 ≡ (29, 31)

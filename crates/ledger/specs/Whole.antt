@@ -1,12 +1,10 @@
 -- DEMAND 3 OF THE LEDGER: what holds after every list of calls.
-use Rattle.refusals.specs.declared.Refusal.{Refusal}
-use Rattle.ledger.specs.declared.Answer.{Answer}
-use Rattle.std.specs.Prelude.{◌≡◌, true, false, List, [], ◌∷◌, ℕ, ◌+◌, ◌≤◌, ◌<◌, Ok, Result}
+use Rattle.std.specs.Prelude.{◌≡◌, true, false, List, [], ◌∷◌, ℕ, ◌+◌, ◌≤◌, ◌<◌, Ok}
 use Rattle.lists.specs.Sums.{sum_over}
 use Rattle.calendar.specs.Steps.{steps_of}
 use Rattle.calendar.specs.Clocks.{counts}
 use Rattle.ledger.specs.Ledger.{Ledger, Key, actor_at, category_at, power}
-use Rattle.ledger.specs.Call.{Call}
+use Rattle.ledger.specs.Call.{Answered, Call}
 use Rattle.ledger.specs.Calls.{step}
 use Rattle.ledger.specs.Asking.{engaged_at, ask_engagement}
 use Rattle.ledger.specs.Reading.{Event, events, actors_of, categories_of, is_among, clock_of, loaded_of, approved_of, power_of, acquired_of, ceded_of}
@@ -16,7 +14,7 @@ abbrev pub after : Ledger → List Call → Ledger
 after l [] = l
 after l (c ∷ cs) = after (step l c).ledger cs
 
-abbrev pub answers_to : Ledger → List Call → List Result Answer Refusal
+abbrev pub answers_to : Ledger → List Call → List Answered
 answers_to l [] = []
 answers_to l (c ∷ cs) = (step l c).answer ∷ answers_to (step l c).ledger cs
 

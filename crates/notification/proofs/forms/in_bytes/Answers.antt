@@ -2,7 +2,6 @@
 use mathlib.Core.Path.{refl, ◌∙◌}
 use lib.ListN.{length-set, length-replicate}
 use Rattle.notification.proofs.Stored.{copied_more, copied_all}
-use Rattle.std.proofs.Common.{arith}
 use Rattle.notification.proofs.forms.in_bytes.Goals as goal
 
 pub loop-i-init : goal.loop-i-init
