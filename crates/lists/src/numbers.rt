@@ -5,20 +5,20 @@ ghost use Rattle.lists.specs.Digits.{digit_value};
 pub fn least(a: u32, b: u32) -> u32
     ensures { result ≡ min a b }
 {
-    if a < b { a } else { b }
+    a.min(b)
 }
 
 // The same of two lengths.
 pub fn least_length(a: usize, b: usize) -> usize
     ensures { result ≡ min a b }
 {
-    if a < b { a } else { b }
+    a.min(b)
 }
 
 pub fn wide(x: u16) -> u32
     ensures { (result ≡ x) × (result ≤ 65535) }
 {
-    x as u32
+    u32::from(x)
 }
 
 pub fn byte(x: u8) -> u32
