@@ -6,8 +6,8 @@ ghost use Rattle.judging.specs.Nets.{most};
 ghost use Rattle.judging.specs.Steps.{below_at, step_fits, net_tests};
 
 use crate::nets::{BASE, Nets};
-use refusals::trying::try_at;
-use refusals::{StateRefusal, Verdict};
+use refusals::trying::refuse_if;
+use refusals::{Refusal, StateRefusal};
 use std::array;
 
 // The first of the steps from `first` to before `until` at which one number is below another; `until` where there is
@@ -48,22 +48,21 @@ fn failing_verdict(
     acquirers: u32,
     first: u32,
     until: u32,
-) -> Verdict
+) -> Result<(), Refusal>
     requires { (first ≤ until) × (until ≤ 50) × (ceders ≤ 65535) × (acquirers ≤ 65535)
         × ((s : ℕ) → s < 50 → slice_index nets.acquirer s ≤ most) }
     ensures { result ≡ first_met (net_tests nets ps ceders acquirers first until) }
 {
     let ceder = nets.ceder;
-    let acquirer = nets.acquirer;
-    let taken = sums(acquirer, ps);
+    let taken = sums(nets.acquirer, ps);
     let s = first_below(ceder, plus(BASE, ps), first, until);
-    let v = try_at(Verdict::Pass, s < until, StateRefusal::CederBelow, s);
+    refuse_if(s < until, Refusal::State(StateRefusal::CederBelow, s))?;
     let s = first_below([BASE + acquirers; 50], taken, first, until);
-    let v = try_at(v, s < until, StateRefusal::AcquirerAbove, s);
+    refuse_if(s < until, Refusal::State(StateRefusal::AcquirerAbove, s))?;
     let s = first_below(plus(BASE + ceders, ps), ceder, first, until);
-    let v = try_at(v, s < until, StateRefusal::CederAbove, s);
+    refuse_if(s < until, Refusal::State(StateRefusal::CederAbove, s))?;
     let s = first_below(taken, [BASE; 50], first, until);
-    try_at(v, s < until, StateRefusal::AcquirerBelow, s)
+    refuse_if(s < until, Refusal::State(StateRefusal::AcquirerBelow, s))
 }
 
 // Whether a number is one of the `more + 1` numbers from `least` on, by one comparison: below `least` the difference
@@ -123,7 +122,7 @@ pub fn step_verdict(
     acquirers: u32,
     first: u32,
     until: u32,
-) -> Verdict
+) -> Result<(), Refusal>
     requires { (first ≤ until) × (until ≤ 50) × (ceders ≤ 65535) × (acquirers ≤ 65535)
         × ((s : ℕ) → s < 50 → slice_index acquirer.now s ≤ most) }
     ensures { result ≡ first_met (net_tests
@@ -131,7 +130,7 @@ pub fn step_verdict(
         ceders acquirers first until) }
 {
     if all_fit(ceder, acquirer, ps, ceders, acquirers, first, until) {
-        return Verdict::Pass;
+        return Ok(());
     }
     let nets = Nets {
         ceder: *ceder,
