@@ -108,6 +108,7 @@ pub fn pass_records(
 {
     let mut count: u32 = 0;
     let mut i: u32 = 0;
+    // By index: each search begins past the place that the last one found, which an iterator would have to carry too.
     loop {
         let k = next_of(records.keys, i, n, own / 64);
         if n <= k {

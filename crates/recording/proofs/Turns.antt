@@ -2,13 +2,16 @@
 use mathlib.Core.Path.{◌≡◌, refl, sym, ◌∙◌, ap}
 use mathlib.Core.Bool.{Bool, true, false, cond, ◌&&◌}
 use mathlib.Core.List.{List, [], ◌∷◌, ◌++◌, append_assoc, map, map-append}
-use Prim.Native.Nat.{ℕ, ◌+◌, ◌/◌, ◌%◌, ◌≤◌, ◌<◌}
+use Prim.Native.Nat.{ℕ, zero, suc, ◌+◌, ◌/◌, ◌%◌, ◌≤◌, ◌<◌}
 use native.Mathlib.Omega.{arith}
 use native.Mathlib.Numerals.{add-one}
 use lib.Dec.{eqb, leb, ltb}
 use lib.ListN.{length, get_or, drop, set, take, length-map}
 use lib.Seq.{drop-cons, set_at, take-suc, length-take-le}
+use Rattle.std.proofs.Math.Bool.{and_comm}
+use Rattle.lists.specs.Searches.{same}
 use Rattle.lists.specs.Tests.{all_below}
+use Rattle.lists.proofs.Places.{same_more}
 use Rattle.lists.specs.Sums.{sum_to}
 use Rattle.ledger.specs.Ledger.{moved_by}
 use Rattle.tables.specs.Tables.{Columns, record_in}
@@ -18,8 +21,15 @@ use Rattle.recording.specs.Recording.{gained_at, given_at}
 
 -- ---- tests and sums
 
-pub all_next : (f : ℕ → Bool) (i : ℕ) (b : Bool) → b ≡ all_below f i → (f i && b) ≡ all_below f (i + 1)
-all_next f i b e = rw (add-one i, e)
+-- the first n numbers of two rows are the same where each two are
+pub rows_same : (ps qs : List ℕ) (n : ℕ) → n ≤ length ps → n ≤ length qs →
+    same (take n ps) (take n qs) ≡ all_below (λ j. eqb (get_or ps j 0) (get_or qs j 0)) n
+unfolding same
+rows_same ps qs zero h k = refl
+rows_same ps qs (suc n) h k =
+    same_more ps qs n (omega arith) (omega arith)
+    ∙ and_comm (same (take n ps) (take n qs)) (eqb (get_or ps n 0) (get_or qs n 0))
+    ∙ ap (λ b. eqb (get_or ps n 0) (get_or qs n 0) && b) (rows_same ps qs n (omega arith) (omega arith))
 
 sum_next : (f : ℕ → ℕ) (i g w : ℕ) → g ≡ sum_to i f → w ≡ f i → g + w ≡ sum_to (i + 1) f
 sum_next f i g w e k = rw (add-one i, e, k)

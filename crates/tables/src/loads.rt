@@ -52,6 +52,7 @@ pub fn last_of(keys: &[u32; 64], n: u32, number: u32) -> Option<u32>
     ensures { result ≡ last_load keys.now n number }
 {
     let mut end = n.min(LOADS);
+    // By index: four are passed at once, from an end that need be no multiple of four.
     while passes_four(keys, end, number) {
         end -= 4;
     }

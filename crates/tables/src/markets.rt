@@ -32,6 +32,7 @@ pub fn next_of(keys: &[u32; 256], i: u32, n: u32, market: u32) -> u32
     }
     let mut k = i + 1;
     let end = last - last.min(3);
+    // By index: what is left past the last four is looked at one by one, from where this loop ends.
     while k < end {
         let four = bits_of_four(keys, k, market);
         if four != 0 {
