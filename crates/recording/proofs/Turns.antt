@@ -91,15 +91,6 @@ module _ (cols : Columns) (market a s : ℕ) where
         given_next cols market a s i sum term (moved_by s (record_in cols i)) refl f
         (g ∙ sym (ap (λ b. cond (b && eqb (get_or cols.keys i 0 / 8 % 8) a) (moved_by s (record_in cols i)) 0) here))
 
--- ---- the power that a record moves
-
-module _ (q : Bool) (b c m n s p : ℕ) (e : b ≡ m) (f : c ≡ n) where
-  pub moved_there : (q && (leb b s && ltb s c)) ≡ true → p ≡ cond (q && (leb m s && ltb s n)) p 0
-  moved_there t = let u : (q && (leb m s && ltb s n)) ≡ true = rw (e, f) at t in rw u
-
-  pub moved_nothing : (q && (leb b s && ltb s c)) ≡ false → 0 ≡ cond (q && (leb m s && ltb s n)) p 0
-  moved_nothing t = let u : (q && (leb m s && ltb s n)) ≡ false = rw (e, f) at t in rw u
-
 -- ---- a buffer
 
 -- one number more in a buffer that holds numbers from its beginning
