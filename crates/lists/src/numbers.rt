@@ -27,12 +27,10 @@ pub fn byte(x: u8) -> u32
     x as u32
 }
 
-// What a digit stands for, and more than 9 where a byte is no digit.
+// What a digit stands for, and more than 9 where a byte is no digit. A number and no Option: each caller's one test,
+// `< 10`, is of the range anyway.
 pub fn digit_value(b: u8) -> u32
     ensures { result ≡ digit_value b }
 {
-    if b < b'0' {
-        return b as u32 + 4294967248;
-    }
-    b as u32 - b'0' as u32
+    u32::from(b).wrapping_sub(u32::from(b'0'))
 }
