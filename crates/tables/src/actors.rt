@@ -1,5 +1,5 @@
 // The enrolled actors, in the order of their enrolment.
-ghost use Rattle.std.specs.Prelude.{◌≡◌, ◌++◌, ◌∷◌, [], ◌<◌};
+ghost use Rattle.std.specs.Prelude.{◌≡◌, ◌++◌, ◌∷◌, [], ◌<◌, length};
 ghost use Rattle.lists.specs.Searches.{same};
 ghost use Rattle.ledger.specs.Ledger.{actor_at};
 ghost use Rattle.tables.specs.More.{more_actors};
@@ -27,6 +27,13 @@ pub fn is_text(code: [u8; 16], s: &[u8]) -> bool
 }
 
 impl Actors {
+    // How many actors are enrolled.
+    pub fn len(self) -> u32
+        ensures { result ≡ length (actors_in self) }
+    {
+        self.count.min(ACTORS)
+    }
+
     // The place of the actor with this code; the number of actors where there is none.
     pub fn place(self, code: &[u8]) -> u32
         ensures { result ≡ actor_at (actors_in self) code.now }

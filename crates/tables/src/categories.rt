@@ -1,5 +1,5 @@
 // The enrolled categories, in the order of their enrolment.
-ghost use Rattle.std.specs.Prelude.{◌≡◌, ◌++◌, ◌∷◌, [], ◌<◌};
+ghost use Rattle.std.specs.Prelude.{◌≡◌, ◌++◌, ◌∷◌, [], ◌<◌, length};
 ghost use Rattle.lists.specs.Searches.{same};
 ghost use Rattle.notification.specs.Forms.{category_text};
 ghost use Rattle.ledger.specs.Ledger.{category_at};
@@ -37,6 +37,13 @@ fn stands_for(c: [u8; 6], s: &[u8]) -> bool
 }
 
 impl Categories {
+    // How many categories are enrolled.
+    pub fn len(self) -> u32
+        ensures { result ≡ length (categories_in self) }
+    {
+        self.count.min(CATEGORIES)
+    }
+
     // The place of a category; the number of categories where there is none.
     pub fn place(self, s: &[u8]) -> u32
         ensures { result ≡ category_at (categories_in self) s.now }
