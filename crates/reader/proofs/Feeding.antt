@@ -9,9 +9,9 @@ use lib.ListN.{length, take, drop, length-append, length-take}
 use lib.Seq.{take_at, take-take, length-take-le}
 use mir.Val.{Val}
 use denote.Laws.{Is}
-use borrow.Author.Tests.{not-true, not-false, eqb-true, eqb-false, leb-true, leb-false, ltb-true, ltb-false, le-ltb, lt-ltb, le-leb, lt-leb, ne_eqb}
+use borrow.Author.Tests.{not-true, not-false, eqb-true, eqb-false, leb-true, leb-false, ltb-true, ltb-false, le-leb, lt-leb, ne_eqb}
 use Rattle.lists.specs.Searches.{byte_from}
-use Rattle.lists.proofs.Tests.{by_test, true_false, or_left, or_right, or_cases}
+use Rattle.lists.proofs.Tests.{by_test, or_left, or_right, or_cases}
 use Rattle.calendar.specs.Steps.{steps_of}
 use Rattle.calendar.proofs.StepCounts.{steps_small}
 use Rattle.std.specs.Prelude.{⊤, cond, Result, Ok, Err, Some, None}
@@ -208,8 +208,8 @@ module _ (self : FileReader) (piece : List ℕ) (total : ℕ) (l : length self.h
 -- ---- the end
 
 -- what is known of a test after it was tried
-pub is_met : {E : Type 0} (t : Bool) (e d : E) → ◌≡◌ {A = Result ⊤ E} (Err d) (cond t (Err e) (Ok tt)) → t ≡ true
-is_met true e d f = refl
+pub is_met : {E : Type 0} (t : Bool) (e d : E) → ◌≡◌ {A = Result ⊤ E} (Err d) (cond t (Err e) (Ok tt)) → (t ≡ true) × (d ≡ e)
+is_met true e d f = (refl, cc)
 is_met false e d f = cc
 
 pub is_unmet : {E : Type 0} (t : Bool) (e : E) (u : ⊤) → ◌≡◌ {A = Result ⊤ E} (Ok u) (cond t (Err e) (Ok tt)) → t ≡ false

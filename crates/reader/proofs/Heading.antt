@@ -12,7 +12,7 @@ use Rattle.lists.specs.Searches.{every, same, byte_from}
 use Rattle.lists.proofs.Tests.{by_test, true_false, right_false, and_left, and_right}
 use Rattle.lists.proofs.Searches.{same_refl, same_true}
 use Rattle.refusals.specs.declared.Refusal.{Refusal}
-use Rattle.std.specs.Prelude.{Result, Ok, Err}
+use Rattle.std.specs.Prelude.{Err}
 use Rattle.notification.specs.Reading.{is_header, lines_in}
 use Rattle.notification.specs.declared.Key.{Key}
 use Rattle.reader.specs.Walking.{starts_with, rest_in}

@@ -16,7 +16,7 @@ use Rattle.lists.specs.Searches.{every, byte_from}
 use Rattle.lists.proofs.Tests.{by_test, and_left, and_right, and_true}
 use Rattle.lists.proofs.Searches.{every_append, every_take}
 use Rattle.calendar.specs.Steps.{steps_of}
-use Rattle.std.specs.Prelude.{Result, Ok, Err}
+use Rattle.std.specs.Prelude.{Result}
 use Rattle.refusals.specs.declared.Refusal.{Refusal}
 use Rattle.notification.specs.Forms.{six_bytes}
 use Rattle.notification.specs.Writing.{key_text, header_of, formed}

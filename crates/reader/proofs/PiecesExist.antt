@@ -12,7 +12,7 @@ use lib.Seq.{take-take, take-append_seam}
 use Rattle.lists.specs.Searches.{byte_from}
 use Rattle.lists.proofs.Tests.{by_test}
 use Rattle.calendar.proofs.StepCounts.{steps_small}
-use Rattle.std.specs.Prelude.{Result, Ok, Err}
+use Rattle.std.specs.Prelude.{Result}
 use Rattle.refusals.specs.declared.Refusal.{Refusal}
 use Rattle.notification.specs.Forms.{filled, places}
 use Rattle.notification.specs.Writing.{header_of}

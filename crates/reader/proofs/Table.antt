@@ -12,7 +12,7 @@ use Rattle.lists.proofs.Tests.{by_test, and_left, and_right}
 use Rattle.lists.proofs.Searches.{same_true}
 use Rattle.calendar.specs.Steps.{steps_of}
 use Rattle.calendar.proofs.StepCounts.{steps_small}
-use Rattle.std.specs.Prelude.{Result, Ok, Err}
+use Rattle.std.specs.Prelude.{Err}
 use Rattle.refusals.specs.Tests.{input}
 use Rattle.refusals.specs.declared.Refusal.TheVariants.{Input}
 use Rattle.refusals.specs.declared.InputRefusal.TheVariants.{Name, Body, Header, Differs}
