@@ -22,6 +22,7 @@ use Rattle.request.specs.Tokens.{is_blank, quote, inside, tokens, quoted_by}
 use Rattle.request.specs.Reading.{is_label_byte, is_run}
 use Rattle.request.proofs.Unquoted.{label_unquoted}
 use Rattle.request_reader.specs.Walking.{Past, Walked, Missing, RunTo, first_token, framed, between}
+use Rattle.request_reader.specs.Steps.{FiveAt}
 use Rattle.request_reader.proofs.Fronts.{tokens_run}
 use Rattle.request_reader.proofs.Walks.{walked_found, walked_lost, token_stands, stands_split}
 use Rattle.request_reader.proofs.Values.{by_none, framed_parts, value_found, value_framed}
@@ -71,6 +72,10 @@ byte_within s i b e f =
     by_test (ltb i (length s))
     (λ t. ltb-true i (length s) t)
     (λ t. absurd (f (sym e ∙ get_or-eq_default s 0 (ltb-false i (length s) t))))
+
+-- five bytes in quotes stand within the text
+pub to_seven : (s : List ℕ) (at : ℕ) → at ≤ length s → FiveAt s at → at + 7 ≤ length s
+to_seven s at h f = let w = byte_within s (at + 6) 34 f.closes (λ (e : 34 ≡ 0). omega arith) in omega arith
 
 -- ---- a label of any bytes
 

@@ -136,7 +136,7 @@ opened_token ps s at from o =
 pub opened_on : (ps qs : List (List ℕ → Bool)) (s : List ℕ) (at mid : ℕ) → Walked ps s at mid → (r : Option ℕ) → OpenSays qs s mid r
     → OpenSays (ps ++ qs) s at r
 opened_on ps qs s at mid w None m = missing_on ps qs s at mid w m
-opened_on ps qs s at mid w (Some from) o = record { mid = o.mid; walked = walked_on ps qs s at mid w o.mid o.walked; past = o.past }
+opened_on ps qs s at mid w (Some from) o = record { mid = o.mid; walked = walked_on ps qs s at mid w o.mid o.walked; past = o.past; within = o.within }
 
 -- ---- a member from after its name on
 

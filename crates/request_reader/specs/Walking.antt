@@ -71,6 +71,7 @@ pub record Opened (ps : List (List ℕ → Bool)) (s : List ℕ) (at from : ℕ)
   pub mid : ℕ
   pub walked : Walked ps s at mid
   pub past : Past s mid from
+  pub within : from ≤ length s
 
 -- what is said of a place where they are looked for
 abbrev pub OpenSays : List (List ℕ → Bool) → List ℕ → ℕ → Option ℕ → Type 0
