@@ -1,5 +1,6 @@
 // Steps taken at once, where nothing stands between their tokens or where they are laid out as the step before them.
-ghost use Rattle.std.specs.Prelude.{true, ◌≡◌, ℕ, ◌++◌, ◌+◌, ◌≤◌, length, drop, ForSome, IfSome, IfNone};
+ghost use Rattle.std.specs.Prelude.{true, ◌≡◌, ℕ, ◌++◌, ◌+◌, ◌≤◌, length, drop, IfSome, IfNone};
+ghost use Rattle.std.specs.Option.{ForSome};
 ghost use Rattle.notification.specs.Forms.{places};
 ghost use Rattle.request_reader.specs.Walking.{part};
 ghost use Rattle.request_reader.specs.Steps.{LaidOut, before_from, open_text, label_list, LabelEntry, Between, Wide};
