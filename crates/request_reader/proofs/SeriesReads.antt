@@ -9,6 +9,10 @@ use lib.Dec.{leb, ltb, eqb}
 use lib.ListN.{length, get_or, drop, length-drop, drop_of_length-le, take-append-drop}
 use lib.Seq.{drop-cons, drop-drop}
 use borrow.Author.Tests.{ltb-true, ltb-false, leb-true, leb-false}
+use Rattle.std.specs.Prelude.{Option, Some, None, IfSome, MatchOption}
+use Rattle.std.specs.Option.{ForSome}
+use Rattle.std.specs.Bool.{then_some}
+use Rattle.std.proofs.lemmas.Option.{none-some}
 use Rattle.lists.specs.Searches.{same}
 use Rattle.lists.proofs.Tests.{by_test, true_false, or_right}
 use Rattle.notification.specs.Forms.{is_digit}
@@ -184,6 +188,17 @@ laid_before s lead at l p o =
       until_label = o.until_label;
       to_power = o.to_power;
     }
+
+pub laid_for : (s : List ℕ) (lead at : ℕ) → Passed between_steps s lead at → (o : Option Layout) → IfSome o (λ l. LaidOut before_from s at l)
+    → ForSome o (λ l. LaidOut (between_steps ++ before_from) s lead l)
+laid_for s lead at p None i = λ l e. absurd (none-some l e)
+laid_for s lead at p (Some k) i = λ l e. let q : k ≡ l = cc in laid_before s lead at l p (rw q at i)
+
+-- what is kept where the object is closed
+pub kept_where : {T : Type 0} (P : Type 0) (Q : T → Type 0) (closed : Bool) (kept : T) → (closed ≡ true → Q kept) → (closed ≡ false → P)
+    → MatchOption (then_some closed kept) P Q
+kept_where P Q true kept f g = f refl
+kept_where P Q false kept f g = g refl
 
 -- ---- the walk
 

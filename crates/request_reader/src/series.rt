@@ -1,5 +1,5 @@
 // The steps of an object, and what closes it.
-ghost use Rattle.std.specs.Prelude.{◌≡◌, true, ◌≤◌, length, drop, IfSome, MatchOption};
+ghost use Rattle.std.specs.Prelude.{◌≡◌, true, false, ◌≤◌, length, drop, IfSome, MatchOption};
 ghost use Rattle.notification.specs.Forms.{places};
 ghost use Rattle.reader.specs.Folding.{no_steps, step_taken};
 ghost use Rattle.request.specs.Tokens.{tokens, fits};
