@@ -48,14 +48,8 @@ pub(crate) fn same_text(s: &[u8], at: usize, text: &[u8]) -> bool
     if n < 8 {
         return four_at(s, at, text, 0) & four_at(s, at + n - 4, text, n - 4);
     }
-    let mut i: usize = 0;
-    while i + 8 < n {
-        if !eight_at(s, at + i, text, i) {
-            return false;
-        }
-        i += 8;
-    }
-    eight_at(s, at + n - 8, text, n - 8)
+    (0..(n - 1) / 8).all(|k| eight_at(s, at + 8 * k, text, 8 * k))
+        && eight_at(s, at + n - 8, text, n - 8)
 }
 
 // Whether the same bytes, 16 to 32, stand at two places.
