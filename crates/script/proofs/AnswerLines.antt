@@ -19,12 +19,6 @@ use Rattle.script.specs.Lines.{comma}
 use Rattle.script.specs.Answers.{value_text, values_text, said_text, answer_line, line_room, answer_put, answer_end}
 use Rattle.script.proofs.Decimals.{word_end, decimal_few, decimal_most}
 
-pub word_placed : (l : List ℕ) (at a b : ℕ) → Placed l at (comma ∷ a ∷ b ∷ []) (set (set (set l at comma) (at + 1) a) (at + 2) b) (at + 3)
-word_placed l at a b =
-    let e : at + 1 ≡ suc at = omega arith in
-    let f : at + 2 ≡ suc (suc at) = omega arith in
-    record { holds = rw (e, f); follows = refl }
-
 -- ---- a value
 
 pub letter_placed : (l : List ℕ) (at v : ℕ) (t : Bool) → t ≡ true → Placed l at (comma ∷ value_text t v) (set (set l at comma) (at + 1) (v % 256)) (at + 2)

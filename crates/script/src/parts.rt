@@ -4,7 +4,6 @@ ghost use Rattle.script.specs.Spans.{cut, first_text, second_text, powers_read};
 
 use crate::numbers::numeral_from;
 use crate::reading::Line;
-use lists::numbers::least_length;
 
 // What stands for a field that is no number: the least number that has more than five digits.
 const NUMBER_END: u32 = 100000;
@@ -13,9 +12,8 @@ const NUMBER_END: u32 = 100000;
 fn part(line: &[u8], from: usize, to: usize) -> &[u8]
     ensures { result.now ≡ cut line.now from to }
 {
-    let end = least_length(to, line.len());
-    let start = least_length(from, end);
-    &line[start..end]
+    let end = to.min(line.len());
+    &line[from.min(end)..end]
 }
 
 pub fn first_text(line: &[u8], read: Line) -> &[u8]
@@ -41,7 +39,7 @@ pub struct Powers {
 pub fn powers_of(line: &[u8], read: Line) -> Powers
     ensures { result ≡ powers_read line.now read }
 {
-    let most = least_length(read.count as usize, 256);
+    let most = (read.count as usize).min(256);
     let mut numbers = [0u32; 256];
     let mut at = read.from as usize;
     for count in 0..most {

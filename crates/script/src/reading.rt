@@ -11,6 +11,7 @@ use lists::bytes::has_byte;
 
 // The bytes of a code and of a date.
 const CODE: usize = 16;
+
 const DATE: usize = 8;
 
 // The calls of demand 3's list that are all on their line.

@@ -6,7 +6,6 @@ ghost use Rattle.script.specs.Answers.{value_text, values_text, said_text, answe
 
 use crate::digits::put_number;
 use answers::Said;
-use lists::numbers::least_length;
 
 // The most bytes of an answer's line.
 pub const LINE_ROOM: usize = 64;
@@ -41,7 +40,7 @@ fn put_values(out: &mut [u8], at: usize, letter: u32, count: u32, values: [u32; 
     ensures { Placed out.old at (values_text letter 0 (take count values)) out.new result
         × (result ≤ at + 33) }
 {
-    let given = &values[..least_length(count as usize, 3)];
+    let given = &values[..values.len().min(count as usize)];
     let mut next = at;
     for (i, value) in given.iter().enumerate() {
         next = put_value(&mut *out, next, i == letter as usize, *value);

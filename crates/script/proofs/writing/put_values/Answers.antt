@@ -8,4 +8,4 @@ pub loop-i-init : goal.loop-i-init
 loop-i-init c = valued_none _ _ _ _
 
 pub loop-i-preserved : goal.loop-i-preserved
-loop-i-preserved c = valued_more c.loop-i.invariant (omega (arith, length-take c.least_length.result c.args.values)) c.loop-i-test.true c.put_value-next.ensures
+loop-i-preserved c = valued_more c.loop-i.invariant (omega (arith, length-take c.min.result c.args.values, c.min.ensures)) c.loop-i-test.true c.put_value-next.ensures
