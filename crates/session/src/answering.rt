@@ -7,14 +7,12 @@ ghost use Rattle.script.specs.Spans.{asked};
 ghost use Rattle.session.specs.Lines.{line_step};
 
 use crate::asking::ask;
-use crate::calling::{called, filed};
-use notification::Reading;
+use crate::calling::{File, called, filed};
 use register::Head;
 use register::turning::Turn;
 use script::reading::{Kind, Line};
 
-// Answers a line, by what was read of it. `readable` says whether the file that the line names can be read, and
-// `reading` what it was read as.
+// Answers a line, by what was read of it, and by the file that it names, where it names one.
 pub fn answer(
     head: Head,
     statuses: &mut [u8; 256],
@@ -27,8 +25,7 @@ pub fn answer(
     loads: &mut [[u16; 50]; 64],
     line: &[u8],
     read: Line,
-    readable: bool,
-    reading: Reading,
+    file: File,
 ) -> Turn
     ensures { tells
         (lent result.head (columns statuses.new ids.new keys.new marks.new
@@ -39,14 +36,14 @@ pub fn answer(
         (lent head (columns statuses.old ids.old keys.old marks.old
         rows.old)
         (load_columns numbers.old approved.old loads.old))
-        readable reading (asked line.now read) }
+        file (asked line.now read) }
 {
     let kind = read.kind;
     match kind {
         Kind::Calls(call) => called(head, numbers, approved, loads, call, line, read),
         Kind::Files => filed(
             head, statuses, ids, keys, marks, rows, &*numbers, &*approved, &*loads, line, read,
-            readable, reading,
+            file,
         ),
         _ => {
             let said = ask(

@@ -19,14 +19,7 @@ pub(crate) const NO_CALL: u32 = 11;
 pub fn only_asks(read: Line) -> bool
     ensures { (line : List ℕ) → result ≡ only_asks (asked line read) }
 {
-    let kind = read.kind;
-    match kind {
-        Kind::Calls(call) => false,
-        Kind::Files => false,
-        Kind::Engagement => true,
-        Kind::RecordOf => true,
-        Kind::Unknown => true,
-    }
+    matches!(read.kind, Kind::Engagement | Kind::RecordOf | Kind::Unknown)
 }
 
 // What a line says that asks for an engagement, by what was read of it.

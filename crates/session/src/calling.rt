@@ -16,6 +16,9 @@ use register::turning::{Turn, turned};
 use script::parts::{first_text, powers_of, second_text};
 use script::reading::{CallKind, Line};
 
+// What the file that a line names is read as; none where it can't be read.
+pub type File = Option<Reading>;
+
 // A call, by what was read of its line.
 pub(crate) fn called(
     head: Head,
@@ -63,8 +66,7 @@ pub(crate) fn called(
     }
 }
 
-// A filing, by what was read of its line. `readable` says whether the file that it names can be read, and `reading`
-// what it was read as.
+// A filing, by what was read of its line, and by the file that it names.
 pub fn filed(
     head: Head,
     statuses: &mut [u8; 256],
@@ -77,8 +79,7 @@ pub fn filed(
     loads: &[[u16; 50]; 64],
     line: &[u8],
     read: Line,
-    readable: bool,
-    reading: Reading,
+    file: File,
 ) -> Turn
     ensures { tells
         (lent result.head (columns statuses.new ids.new keys.new marks.new
@@ -89,15 +90,15 @@ pub fn filed(
         (lent head (columns statuses.old ids.old keys.old marks.old
         rows.old)
         (load_columns numbers.now approved.now loads.now))
-        readable reading (file_of (first_text line.now read)
+        file (file_of (first_text line.now read)
         (second_text line.now read)) }
 {
-    if !readable {
+    let Some(reading) = file else {
         return Turn {
-            head: head,
+            head,
             said: refused(NO_CALL),
         };
-    }
+    };
     let submitter = first_text(line, read);
     turned(head.file_reading(
         statuses, ids, keys, marks, rows, numbers, approved, loads, submitter, reading,
