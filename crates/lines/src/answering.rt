@@ -6,13 +6,12 @@ ghost use Rattle.register.specs.View.{lent};
 ghost use Rattle.lines.specs.Walking.{stands, has_room, walk, Progressed};
 
 use crate::ends::line_end;
-use notification::Reading;
 use register::Head;
 use script::reading::{Kind, names_file, read_line};
 use script::writing::{LINE_ROOM, write_answer};
 use session::answering::answer;
 use session::asking::{ask, engaged, only_asks};
-use session::calling::filed;
+use session::calling::{File, filed};
 use std::num::wrapping_add_u64;
 
 // What the lines want before they go on.
@@ -41,15 +40,14 @@ pub struct Progress {
 fn has_room(output: &[u8], out: usize) -> bool
     ensures { result ≡ has_room output.now out }
 {
-    if output.len() < LINE_ROOM {
-        return false;
-    }
-    out <= output.len() - LINE_ROOM
+    output
+        .len()
+        .checked_sub(LINE_ROOM)
+        .is_some_and(|last| out <= last)
 }
 
 // Answers the lines of the input from a place on that have their LF, and puts their answers behind those that wait in
-// the output. A line that names a file is answered by what was found of it: `given` says whether that is known of the
-// first line, `readable` whether the file can be read, and `reading` what it was read as.
+// the output. A line that names a file is answered by what it was read as: `given` is what is known of the first line's.
 pub fn answer_lines(
     head: Head,
     statuses: &mut [u8; 256],
@@ -65,16 +63,14 @@ pub fn answer_lines(
     at: usize,
     output: &mut [u8],
     out: usize,
-    given: bool,
-    readable: bool,
-    reading: Reading,
+    given: Option<File>,
 ) -> Progress
     ensures { (stands
         (lent result.head (columns statuses.new ids.new keys.new marks.new
         rows.new)
         (load_columns numbers.new approved.new loads.new))
         result.number result.at output.new result.out result.wants
-        ≡ walk readable reading given
+        ≡ walk given
         (stands
         (lent head (columns statuses.old ids.old keys.old marks.old
         rows.old)
@@ -89,11 +85,7 @@ pub fn answer_lines(
     let mut out = out;
     let mut given = given;
     let mut wants = Wants::Input;
-    while at < input.len() {
-        let stop = line_end(input, at);
-        if stop == input.len() {
-            break;
-        }
+    while let Some(stop) = line_end(input, at) {
         if !has_room(&*output, out) {
             wants = Wants::Room;
             break;
@@ -109,24 +101,24 @@ pub fn answer_lines(
             out = write_answer(next, said, &mut *output, out);
             number = next;
             at = stop + 1;
-            given = false;
+            given = None;
             continue;
         }
         if names_file(kind) {
-            if !given {
+            let Some(file) = given else {
                 let name = read.first as usize + 1;
                 wants = Wants::File(at + name, stop);
                 break;
-            }
+            };
             let turn = filed(
                 head, statuses, ids, keys, marks, rows, &*numbers, &*approved, &*loads, line, read,
-                readable, reading,
+                file,
             );
             head = turn.head;
             out = write_answer(next, turn.said, &mut *output, out);
             number = next;
             at = stop + 1;
-            given = false;
+            given = None;
             continue;
         }
         if only_asks(read) {
@@ -136,18 +128,28 @@ pub fn answer_lines(
             out = write_answer(next, said, &mut *output, out);
             number = next;
             at = stop + 1;
-            given = false;
+            given = None;
             continue;
         }
         let turn = answer(
-            head, statuses, ids, keys, marks, rows, numbers, approved, loads, line, read, readable,
-            reading,
+            head,
+            statuses,
+            ids,
+            keys,
+            marks,
+            rows,
+            numbers,
+            approved,
+            loads,
+            line,
+            read,
+            given.unwrap_or(None),
         );
         head = turn.head;
         out = write_answer(next, turn.said, &mut *output, out);
         number = next;
         at = stop + 1;
-        given = false;
+        given = None;
     }
     Progress {
         head,

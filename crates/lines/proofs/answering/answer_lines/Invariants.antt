@@ -7,14 +7,14 @@ use Rattle.lines.specs.Walking.{stands}
 use Rattle.lines.specs.declared.answering.Wants.TheVariants.{Input}
 use Rattle.lines.proofs.answering.answer_lines.Given as goal
 
-abbrev pub invariant-loop-at : goal.invariant-loop-at
-invariant-loop-at l =
+abbrev pub invariant-loop-stop : goal.invariant-loop-stop
+invariant-loop-stop l =
     (l.wants ≡ Input)
-    × Going l.input l.readable l.reading l.initial.given
+    × Going l.input l.initial.given
     (stands (lent l.initial.head (columns l.initial.statuses l.initial.ids l.initial.keys l.initial.marks l.initial.rows) (load_columns l.initial.numbers l.initial.approved l.initial.loads)) l.initial.number l.initial.at l.initial.output l.initial.out Input)
     l.given
     (stands (lent l.head (columns l.statuses l.ids l.keys l.marks l.rows) (load_columns l.numbers l.approved l.loads)) l.number l.at l.output l.out Input)
 
-abbrev pub decreases-loop-at : goal.decreases-loop-at
-decreases-loop-at l =
+abbrev pub decreases-loop-stop : goal.decreases-loop-stop
+decreases-loop-stop l =
     length l.input - l.at
