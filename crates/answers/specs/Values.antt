@@ -1,15 +1,10 @@
 -- Document 01's number and values for each case of an answer ("Choosing the form by place": "Where an answer is an enum, a
 -- definition sets out this paper's number and values for each of its cases").
-use Rattle.std.specs.Prelude.{[], ◌∷◌, ℕ}
+use Rattle.std.specs.Prelude.{[], ◌∷◌, ℕ, Result, Ok, Err}
 use Rattle.refusals.specs.Numbers.{number_of, place_of}
-use Rattle.refusals.specs.Tests.{decide}
 use Rattle.refusals.specs.declared.Refusal.{Refusal}
-use Rattle.ledger.specs.declared.Answer.{Answer}
-use Rattle.ledger.specs.declared.Answer.TheVariants.{Moved, Held, Filed, Refused}
-use Rattle.ledger.specs.declared.Engaged.{Engaged}
-use Rattle.ledger.specs.declared.Engaged.TheVariants as engaged
-use Rattle.ledger.specs.declared.Listed.{Listed}
-use Rattle.ledger.specs.declared.Listed.TheVariants as listed
+use Rattle.ledger.specs.Call.{Answered}
+use Rattle.ledger.specs.declared.Answer.TheVariants.{Moved, Held, Filed}
 use Rattle.ledger.specs.declared.Shown.{Shown}
 use Rattle.answers.specs.declared.Said.{Said}
 
@@ -33,22 +28,18 @@ abbrev pub said_no : Refusal → Said
 said_no r = said_refusal (number_of r) (place_of r)
 
 -- "T nothing; A, C and L how many there now are; F id, status, from-step"
-abbrev pub said_of : Answer → Said
-said_of Moved = said_ok 0 no_letter 0 0 0
-said_of (Held n) = said_ok 1 no_letter n 0 0
-said_of (Filed id status from) = said_ok 3 1 id status from
-said_of (Refused r) = said_no r
+abbrev pub said_of : Answered → Said
+said_of (Ok Moved) = said_ok 0 no_letter 0 0 0
+said_of (Ok (Held n)) = said_ok 1 no_letter n 0 0
+said_of (Ok (Filed id status from)) = said_ok 3 1 id status from
+said_of (Err r) = said_no r
 
--- "E the engagement"
-abbrev pub said_engaged : Engaged → Said
-said_engaged (engaged.Power p) = said_ok 1 no_letter p 0 0
-said_engaged (engaged.Refused r) = said_no r
-
--- the history: how many ids
-abbrev pub said_listed : Listed → Said
-said_listed (listed.Count n) = said_ok 1 no_letter n 0 0
-said_listed (listed.Refused r) = said_no r
+-- "E the engagement"; the history: how many ids
+abbrev pub said_number : Result ℕ Refusal → Said
+said_number (Ok n) = said_ok 1 no_letter n 0 0
+said_number (Err r) = said_no r
 
 -- "R status, from, until"
-abbrev pub said_shown : Shown → Said
-said_shown s = decide s.verdict (said_ok 3 0 s.status s.from s.until) said_no
+abbrev pub said_shown : Result Shown Refusal → Said
+said_shown (Ok s) = said_ok 3 0 s.status s.from s.until
+said_shown (Err r) = said_no r

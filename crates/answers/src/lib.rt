@@ -3,10 +3,10 @@
 #![tactic(auto)]
 
 ghost use Rattle.std.specs.Prelude.{◌≡◌};
-ghost use Rattle.answers.specs.Values.{said_refused, said_no, said_of, said_engaged, said_listed, said_shown};
+ghost use Rattle.answers.specs.Values.{said_refused, said_no, said_of, said_number, said_shown};
 
-use ledger::{Answer, Engaged, Listed, Shown};
-use refusals::{Refusal, Verdict};
+use ledger::{Answer, Shown};
+use refusals::Refusal;
 
 // The place of a letter among the values where none of them is one.
 const NO_LETTER: u32 = 3;
@@ -23,110 +23,75 @@ pub struct Said {
     pub values: [u32; 3],
 }
 
+// A result without a value.
+const NOTHING: Said = Said {
+    number: 0,
+    place: 0,
+    count: 0,
+    letter: NO_LETTER,
+    values: [0; 3],
+};
+
 // A refusal that has a number alone: the program's own 11.
 pub fn refused(number: u32) -> Said
     ensures { result ≡ said_refused number }
 {
-    Said {
-        number,
-        place: 0,
-        count: 0,
-        letter: NO_LETTER,
-        values: [0, 0, 0],
-    }
+    Said { number, ..NOTHING }
 }
 
 // A refusal by its number and place.
 fn no_for(refusal: Refusal) -> Said
     ensures { result ≡ said_no refusal }
 {
-    let number = refusals::number_of(refusal);
-    let place = refusals::place_of(refusal);
     Said {
-        number,
-        place,
-        count: 0,
-        letter: NO_LETTER,
-        values: [0, 0, 0],
+        number: refusals::number_of(refusal),
+        place: refusals::place_of(refusal),
+        ..NOTHING
     }
 }
 
 // What a call of demand 3's list answers.
-pub fn of_answer(answer: Answer) -> Said
+pub fn of_answer(answer: Result<Answer, Refusal>) -> Said
     ensures { result ≡ said_of answer }
 {
     match answer {
-        Answer::Moved => Said {
-            number: 0,
-            place: 0,
-            count: 0,
-            letter: NO_LETTER,
-            values: [0, 0, 0],
-        },
-        Answer::Held(n) => Said {
-            number: 0,
-            place: 0,
-            count: 1,
-            letter: NO_LETTER,
-            values: [n, 0, 0],
-        },
-        Answer::Filed(id, status, from) => Said {
-            number: 0,
-            place: 0,
+        Ok(Answer::Moved) => NOTHING,
+        Ok(Answer::Held(n)) => of_number(Ok(n)),
+        Ok(Answer::Filed(id, status, from)) => Said {
             count: 3,
             letter: 1,
-            values: [id, status as u32, from],
+            values: [id, u32::from(status), from],
+            ..NOTHING
         },
-        Answer::Refused(refusal) => no_for(refusal),
+        Err(refusal) => no_for(refusal),
     }
 }
 
-// What the engagement call answers.
-pub fn of_engaged(answer: Engaged) -> Said
-    ensures { result ≡ said_engaged answer }
+// What the engagement call answers, or the history call.
+pub fn of_number(answer: Result<u32, Refusal>) -> Said
+    ensures { result ≡ said_number answer }
 {
     match answer {
-        Engaged::Power(p) => Said {
-            number: 0,
-            place: 0,
+        Ok(n) => Said {
             count: 1,
-            letter: NO_LETTER,
-            values: [p, 0, 0],
-        },
-        Engaged::Refused(refusal) => no_for(refusal),
-    }
-}
-
-// What the history call answers.
-pub fn of_listed(answer: Listed) -> Said
-    ensures { result ≡ said_listed answer }
-{
-    match answer {
-        Listed::Count(n) => Said {
-            number: 0,
-            place: 0,
-            count: 1,
-            letter: NO_LETTER,
             values: [n, 0, 0],
+            ..NOTHING
         },
-        Listed::Refused(refusal) => no_for(refusal),
+        Err(refusal) => no_for(refusal),
     }
 }
 
 // What the record call answers.
-pub fn of_shown(answer: Shown) -> Said
+pub fn of_shown(answer: Result<Shown, Refusal>) -> Said
     ensures { result ≡ said_shown answer }
 {
-    let verdict = answer.verdict;
-    let status = answer.status;
-    match verdict {
-        Verdict::Pass => Said {
-            number: 0,
-            place: 0,
+    match answer {
+        Ok(shown) => Said {
             count: 3,
             letter: 0,
-            values: [status as u32, answer.from, answer.until],
+            values: [u32::from(shown.status), shown.from, shown.until],
+            ..NOTHING
         },
-        Verdict::No(refusal) => no_for(refusal),
+        Err(refusal) => no_for(refusal),
     }
 }

@@ -1,6 +1,7 @@
 -- The first counted step by the day's place before or after the clock's, the steps that count, and moments: none is before itself,
 -- the first counted step of a day never falls from one moment to a later one, and what no longer counts never counts again. What is
 -- replaced whole, and what can be loaded.
+use Rattle.std.specs.Prelude.{Err, Ok}
 use mathlib.Core.Path.{◌≡◌, refl, sym, ◌∙◌, ap}
 use mathlib.Core.Bool.{Bool, true, false, not, ◌&&◌, ◌||◌, true≢false}
 use mathlib.Core.List.{[], ◌∷◌}
@@ -11,15 +12,12 @@ use borrow.Author.Tests.{ltb-true, ltb-false, leb-true, leb-false, eqb-true, le-
 use Rattle.calendar.specs.Dates.{date}
 use Rattle.calendar.specs.Steps.{step_minutes, last_sunday, steps_of}
 use Rattle.calendar.specs.Clocks.{fresh_clock, after_hour, first_counted, counts, replaces_whole, loadable, is_moment, is_before, advance_tests, advanced}
-use Rattle.refusals.specs.Tests.{input, state, first_met, decide}
+use Rattle.refusals.specs.Tests.{input, state, first_met, decide, Verdict, pass}
 use Rattle.refusals.specs.declared.Refusal.{Refusal}
 use Rattle.refusals.specs.declared.InputRefusal.TheVariants.{Range}
 use Rattle.refusals.specs.declared.StateRefusal.TheVariants.{Back}
-use Rattle.refusals.specs.declared.Verdict.{Verdict}
-use Rattle.refusals.specs.declared.Verdict.TheVariants.{Pass, No}
 use Rattle.refusals.proofs.Tests.{tried_all, tried_first}
 use Rattle.calendar.specs.declared.clock.Clock.{Clock}
-use Rattle.calendar.specs.declared.clock.Advance.TheVariants.{Moved, Refused}
 use Rattle.lists.proofs.Tests.{both_true, both_false, right_false}
 
 -- ---- first_counted
@@ -160,28 +158,28 @@ loadable_counts c day step e =
 
 -- 10, 38, tried one after the other
 pub advance_tried : (c to : Clock) (moment before : Bool) → moment ≡ is_moment to → before ≡ is_before to c →
-    tried_all Pass ((not moment, input Range) ∷ (before, state Back) ∷ []) ≡ first_met (advance_tests c to)
+    tried_all pass ((not moment, input Range) ∷ (before, state Back) ∷ []) ≡ first_met (advance_tests c to)
 advance_tried c to moment before em eb = tried_first ((not moment, input Range) ∷ (before, state Back) ∷ []) ∙ rw (em, eb)
 
 -- what the clock answers tells what its tests come to
 module _ (c to : Clock) where
-  by_verdict : (v : Verdict) (x : Clock) → Moved x ≡ decide v (Moved to) Refused → (x ≡ to) × (v ≡ Pass)
-  by_verdict Pass x e = (cc, refl)
-  by_verdict (No r) x e = let z : ◌≡◌ {A = ℕ} 0 1 = cc in absurd (omega arith)
+  by_verdict : (v : Verdict) (x : Clock) → Ok x ≡ decide v (Ok to) Err → (x ≡ to) × (v ≡ pass)
+  by_verdict (Ok u) x e = (cc, refl)
+  by_verdict (Err r) x e = let z : ◌≡◌ {A = ℕ} 0 1 = cc in absurd (omega arith)
 
-  pub advanced_moved : (x : Clock) → Moved x ≡ advanced c to → (x ≡ to) × (first_met (advance_tests c to) ≡ Pass)
+  pub advanced_moved : (x : Clock) → Ok x ≡ advanced c to → (x ≡ to) × (first_met (advance_tests c to) ≡ pass)
   unfolding advanced
   advanced_moved x e = by_verdict (first_met (advance_tests c to)) x e
 
-  by_refusal : (v : Verdict) (r : Refusal) → Refused r ≡ decide v (Moved to) Refused → v ≡ No r
-  by_refusal Pass r e = let z : ◌≡◌ {A = ℕ} 0 1 = cc in absurd (omega arith)
-  by_refusal (No q) r e = cc
+  by_refusal : (v : Verdict) (r : Refusal) → Err r ≡ decide v (Ok to) Err → v ≡ Err r
+  by_refusal (Ok u) r e = let z : ◌≡◌ {A = ℕ} 0 1 = cc in absurd (omega arith)
+  by_refusal (Err q) r e = cc
 
-  pub advanced_refused : (r : Refusal) → Refused r ≡ advanced c to → first_met (advance_tests c to) ≡ No r
+  pub advanced_refused : (r : Refusal) → Err r ≡ advanced c to → first_met (advance_tests c to) ≡ Err r
   unfolding advanced
   advanced_refused r e = by_refusal (first_met (advance_tests c to)) r e
 
 -- the same moment is accepted
-pub advanced_same : (c : Clock) → is_moment c ≡ true → advanced c c ≡ Moved c
+pub advanced_same : (c : Clock) → is_moment c ≡ true → advanced c c ≡ Ok c
 unfolding advanced
 advanced_same c e = rw (e, is_before_same c)

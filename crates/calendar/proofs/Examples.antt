@@ -1,4 +1,5 @@
 -- The examples of document 01 that concern days, marked † there, and those of document 02, K2, in one list.
+use Rattle.std.specs.Prelude.{Some}
 use mathlib.Core.Path.{◌≡◌, refl}
 use mathlib.Core.Bool.{Bool, true, false}
 use mathlib.Core.List.{List, [], ◌∷◌}
@@ -12,7 +13,6 @@ use Rattle.calendar.specs.Clocks.{first_counted}
 use Rattle.calendar.specs.declared.clock.Clock.{Clock}
 use Rattle.calendar.specs.declared.labels.Label.{Label}
 use Rattle.calendar.specs.declared.labels.Labels.{Labels}
-use Rattle.calendar.specs.declared.texts.Day.TheVariants.{Number}
 
 -- the first counted step of the clock's own day at a minute
 abbrev counted : ℕ → ℕ
@@ -53,9 +53,9 @@ pub record Days : Type 0 where
   pub short_1320 : left 1320 46 ≡ false
   pub long_1439 : (counted 1439 ≡ 49) × (left 1439 50 ≡ true)
   pub long_1440 : left 1440 50 ≡ false
-  pub day_20210328 : (day_of (eight 20210328) ≡ Number 7757) × (steps_of 7757 ≡ 46)
-  pub day_20211031 : (day_of (eight 20211031) ≡ Number 7974) × (steps_of 7974 ≡ 50)
-  pub day_20000326 : (day_of (eight 20000326) ≡ Number 85) × (steps_of 85 ≡ 46)
+  pub day_20210328 : (day_of (eight 20210328) ≡ Some 7757) × (steps_of 7757 ≡ 46)
+  pub day_20211031 : (day_of (eight 20211031) ≡ Some 7974) × (steps_of 7974 ≡ 50)
+  pub day_20000326 : (day_of (eight 20000326) ≡ Some 85) × (steps_of 85 ≡ 46)
   -- "on a 48-step day minute 1409 gives 0 and 1410 gives 1", whether the next day has 48 steps, 46 or 50; then an eve of 46 and one of 50
   pub eve_48 : (steps_of 7755 ≡ 48) × (ahead 7755 1409 ≡ (0, 0)) × (ahead 7755 1410 ≡ (1, 0))
   pub eve_of_short : (steps_of 7756 ≡ 48) × (ahead 7756 1409 ≡ (0, 0)) × (ahead 7756 1410 ≡ (1, 0))

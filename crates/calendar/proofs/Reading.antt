@@ -1,4 +1,5 @@
 -- A date's text reads back as the date, and no other text does.
+use Rattle.std.specs.Prelude.{None}
 use mathlib.Core.Path.{◌≡◌}
 use mathlib.Core.Bool.{true, ◌&&◌}
 use mathlib.Core.List.{List}
@@ -6,7 +7,6 @@ use Prim.Native.Nat.{ℕ, ◌≤◌}
 use lib.Dec.{leb}
 use lib.ListN.{length, get_or}
 use borrow.Author.Tests.{leb-true, eq-eqb, ne_eqb}
-use Rattle.calendar.specs.declared.texts.Day.TheVariants.{NoDay}
 use Rattle.calendar.specs.Texts.{digit, pair_of, read_date, day_at, day_of}
 use Rattle.lists.proofs.Tests.{both_true}
 
@@ -16,7 +16,7 @@ digits_from a b e =
     (leb-true 48 a (both_true (leb 48 a) (leb a 57) p.0).0, leb-true 48 b (both_true (leb 48 b) (leb b 57) p.1).0)
 
 -- a text stands for the day that its four pairs give, or it has not eight bytes
-pub not_eight : (s : List ℕ) → (length s ≡ 8 → ⊥) → NoDay ≡ day_of s
+pub not_eight : (s : List ℕ) → (length s ≡ 8 → ⊥) → None ≡ day_of s
 unfolding day_of
 not_eight s h = rw (ne_eqb (length s) 8 h)
 

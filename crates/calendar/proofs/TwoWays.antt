@@ -1,4 +1,5 @@
 -- Days and texts: the text of each day reads back as that day, and each text that is read is the text of the day answered.
+use Rattle.std.specs.Prelude.{None, Some}
 use mathlib.Core.Path.{◌≡◌, refl, sym, ◌∙◌, ap}
 use mathlib.Core.Logic.{◌↔◌}
 use mathlib.Core.Bool.{Bool, true, false, cond, ◌&&◌}
@@ -12,7 +13,6 @@ use borrow.Author.Tests.{lt-ltb, le-ltb, leb-true, eqb-true}
 use Rattle.calendar.specs.Dates.{day_count, date, number, valid, month_length, leap_days, before_year, before_month}
 use Rattle.calendar.specs.Texts.{tens, ones, digit, pair_of, date_text, text_of, read_date, day_at, day_of}
 use Rattle.calendar.specs.declared.dates.Date.{Date}
-use Rattle.calendar.specs.declared.texts.Day.TheVariants.{Number, NoDay}
 use Rattle.lists.proofs.Tests.{true_of, both_true}
 use Rattle.lists.proofs.Below.{below, within}
 use Rattle.calendar.proofs.Counting.{There, leaps, date_number}
@@ -58,7 +58,7 @@ twenty : pair_of 50 48 ≡ 20
 unfolding pair_of
 twenty = refl
 
-date_text_read : (x : Date) → There x → day_of (date_text x) ≡ Number (number x)
+date_text_read : (x : Date) → There x → day_of (date_text x) ≡ Some (number x)
 date_text_read x h =
     let s = date_text x in
     let b : x.day ≤ 31 = omega (arith, at_most_31 (leap_days x.year) x.month (leaps x.year) (omega arith)) in
@@ -66,11 +66,11 @@ date_text_read x h =
     sym (eight_read s refl) ∙ (ap (day_at (pair_of 50 48)) r ∙ rw (twenty, there_valid x h))
 
 -- the text of each day reads back as that day
-pub text_read : (n : ℕ) → n < day_count → day_of (text_of n) ≡ Number n
+pub text_read : (n : ℕ) → n < day_count → day_of (text_of n) ≡ Some n
 unfolding text_of
 text_read n h =
     let d = number_date n h in
-    rw (lt-ltb n day_count h) (date_text_read (date n) d.there ∙ ap Number d.its_number)
+    rw (lt-ltb n day_count h) (date_text_read (date n) d.there ∙ ap Some d.its_number)
 
 -- ---- from a text to its day and back
 
@@ -101,7 +101,7 @@ date_text_lem s e c h =
     eight s e ∙ (cc)
 
 read_by : (s : List ℕ) (n : ℕ) (u v : Bool) → eqb (length s) 8 ≡ u → (eqb (pair_of (get_or s 0 0) (get_or s 1 0)) 20 && valid (read_date s)) ≡ v
-    → cond u (cond v (Number (number (read_date s))) NoDay) NoDay ≡ Number n → (n < day_count) × (s ≡ text_of n)
+    → cond u (cond v (Some (number (read_date s))) None) None ≡ Some n → (n < day_count) × (s ≡ text_of n)
 unfolding text_of
 read_by s n false v d e q = let z : ◌≡◌ {A = ℕ} 0 1 = cc in absurd (omega arith)
 read_by s n true false d e q = let z : ◌≡◌ {A = ℕ} 0 1 = cc in absurd (omega arith)
@@ -115,18 +115,18 @@ read_by s n true true d e q =
     (l, rw (lt-ltb n day_count l) (t ∙ ap date_text (sym (date_number x h) ∙ ap date k)))
 
 -- each text that is read is the text of the day answered
-pub read_text : (s : List ℕ) (n : ℕ) → day_of s ≡ Number n → (n < day_count) × (s ≡ text_of n)
+pub read_text : (s : List ℕ) (n : ℕ) → day_of s ≡ Some n → (n < day_count) × (s ≡ text_of n)
 unfolding day_of
 read_text s n e = read_by s n _ _ refl refl e
 
 -- both ways in one
-pub two_ways : (s : List ℕ) (n : ℕ) → (day_of s ≡ Number n) ↔ ((n < day_count) × (s ≡ text_of n))
+pub two_ways : (s : List ℕ) (n : ℕ) → (day_of s ≡ Some n) ↔ ((n < day_count) × (s ≡ text_of n))
 two_ways s n = (read_text s n, λ p. ap day_of p.1 ∙ text_read n p.0)
 
 -- ---- the ends
 
 -- a number that is no day has a text that is no date
-pub text_none : (n : ℕ) → day_count ≤ n → day_of (text_of n) ≡ NoDay
+pub text_none : (n : ℕ) → day_count ≤ n → day_of (text_of n) ≡ None
 unfolding text_of day_of pair_of
 text_none n h = rw (le-ltb n day_count h)
 

@@ -1,14 +1,13 @@
 -- The clock and the first counted step. Document 01, "Days and steps": "The clock is a day and an elapsed minute below 30
 -- times the day's steps." "First counted step at clock minute m: .. floor(m/30)+2 for the clock's day." Document 02, K2: "For
 -- the day after the clock's, the first counted step is floor(m/30)+2 less the clock day's step count, or 0 if that is negative".
-use Rattle.std.specs.Prelude.{Bool, not, cond, ◌&&◌, ◌||◌, List, [], ◌∷◌, ℕ, ◌+◌, ◌-◌, ◌*◌, ◌/◌, leb, ltb, eqb}
+use Rattle.refusals.specs.declared.Refusal.{Refusal}
+use Rattle.std.specs.Prelude.{Bool, not, cond, ◌&&◌, ◌||◌, List, [], ◌∷◌, ℕ, ◌+◌, ◌-◌, ◌*◌, ◌/◌, leb, ltb, eqb, Err, Ok, Result}
 use Rattle.calendar.specs.Steps.{step_minutes, steps_of}
 use Rattle.refusals.specs.Tests.{Test, input, state, first_met, decide}
 use Rattle.refusals.specs.declared.InputRefusal.TheVariants.{Range}
 use Rattle.refusals.specs.declared.StateRefusal.TheVariants.{Back}
 use Rattle.calendar.specs.declared.clock.Clock.{Clock}
-use Rattle.calendar.specs.declared.clock.Advance.{Advance}
-use Rattle.calendar.specs.declared.clock.Advance.TheVariants.{Moved, Refused}
 
 -- "The ledger": "A fresh register .. with its clock at day 0, minute 0"
 abbrev pub fresh_clock : Clock
@@ -54,5 +53,5 @@ abbrev pub advance_tests : Clock → Clock → List Test
 advance_tests clock to = (not (is_moment to), input Range) ∷ (is_before to clock, state Back) ∷ []
 
 -- "The ledger": "advance the clock (the same moment is accepted)": the clock at the new moment, or what refuses it
-unfoldable pub advanced : Clock → Clock → Advance
-advanced clock to = decide (first_met (advance_tests clock to)) (Moved to) Refused
+unfoldable pub advanced : Clock → Clock → Result Clock Refusal
+advanced clock to = decide (first_met (advance_tests clock to)) (Ok to) Err

@@ -1,9 +1,7 @@
 -- The eight digits of a date. Document 01, "Days and steps": "A date is eight digits, year month day".
-use Rattle.std.specs.Prelude.{Bool, cond, ◌&&◌, List, [], ◌∷◌, ℕ, ◌+◌, ◌-◌, ◌*◌, ◌/◌, ◌%◌, leb, ltb, eqb, length, get_or}
+use Rattle.std.specs.Prelude.{Bool, cond, ◌&&◌, List, [], ◌∷◌, ℕ, ◌+◌, ◌-◌, ◌*◌, ◌/◌, ◌%◌, leb, ltb, eqb, length, get_or, None, Option, Some}
 use Rattle.calendar.specs.Dates.{day_count, date, number, valid}
 use Rattle.calendar.specs.declared.dates.Date.{Date}
-use Rattle.calendar.specs.declared.texts.Day.{Day}
-use Rattle.calendar.specs.declared.texts.Day.TheVariants.{Number, NoDay}
 
 -- "digits": the bytes of 0 and 9
 abbrev pub zero_byte : ℕ
@@ -54,9 +52,9 @@ read_date s =
     }
 
 -- "20000101 to 20991231": the day of a date in a century, or that there is none such
-abbrev pub day_at : ℕ → Date → Day
-day_at c x = cond (eqb c century && valid x) (Number (number x)) NoDay
+abbrev pub day_at : ℕ → Date → Option ℕ
+day_at c x = cond (eqb c century && valid x) (Some (number x)) None
 
 -- "A date is eight digits", "Its day number": the day that a text stands for, or that it stands for none
-unfoldable pub day_of : List ℕ → Day
-day_of s = cond (eqb (length s) 8) (day_at (pair_of (get_or s 0 0) (get_or s 1 0)) (read_date s)) NoDay
+unfoldable pub day_of : List ℕ → Option ℕ
+day_of s = cond (eqb (length s) 8) (day_at (pair_of (get_or s 0 0) (get_or s 1 0)) (read_date s)) None

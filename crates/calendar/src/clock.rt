@@ -5,26 +5,18 @@ ghost use Rattle.calendar.specs.Clocks.{fresh_clock, first_counted, counts, repl
 ghost use Rattle.calendar.specs.Clocks.{is_before, advanced};
 
 use crate::steps::{STEP_MINUTES, steps_of};
-use lists::numbers::least;
-use refusals::trying::{try_input, try_state};
-use refusals::{InputRefusal, Refusal, StateRefusal, Verdict};
+use refusals::trying::refuse_if;
+use refusals::{InputRefusal, Refusal, StateRefusal};
 
 // The steps that the neutral hour takes from the clock's own on: the one that runs, and the next, past midnight too.
 const NEUTRAL_STEPS: u32 = 2;
 
 // A day and the minutes elapsed since its local midnight.
 #[repr(C)]
-#[derive(Clone, Copy)]
+#[derive(Clone, Copy, PartialEq, Eq, PartialOrd, Ord)]
 pub struct Clock {
     pub day: u32,
     pub minute: u32,
-}
-
-// What comes of moving the clock: the clock at the new moment, or a refusal.
-#[derive(Clone, Copy)]
-pub enum Advance {
-    Moved(Clock),
-    Refused(Refusal),
 }
 
 impl Clock {
@@ -47,7 +39,7 @@ impl Clock {
             return 0;
         }
         let steps = steps_of(self.day);
-        after - least(after, steps)
+        after.saturating_sub(steps)
     }
 
     // Whether a step of a day counts.
@@ -86,18 +78,16 @@ impl Clock {
     pub fn is_before(self, other: Clock) -> bool
         ensures { result ≡ is_before self other }
     {
-        (self.day < other.day) | ((self.day == other.day) & (self.minute < other.minute))
+        self < other
     }
 
     // The clock at a later moment, or at the same one: 10, 38.
-    pub fn advanced(self, to: Clock) -> Advance
+    #[tactic(auto, unfolding(crate::specs::Clocks::advanced))]
+    pub fn advanced(self, to: Clock) -> Result<Clock, Refusal>
         ensures { result ≡ advanced self to }
     {
-        let v = try_input(Verdict::Pass, !to.is_moment(), InputRefusal::Range);
-        let v = try_state(v, to.is_before(self), StateRefusal::Back);
-        match v {
-            Verdict::Pass => Advance::Moved(to),
-            Verdict::No(r) => Advance::Refused(r),
-        }
+        refuse_if(!to.is_moment(), InputRefusal::Range)?;
+        refuse_if(to.is_before(self), StateRefusal::Back)?;
+        Ok(to)
     }
 }

@@ -9,8 +9,8 @@ pub mod labels;
 pub mod steps;
 pub mod texts;
 
-pub use crate::clock::{Advance, Clock};
+pub use crate::clock::Clock;
 pub use crate::dates::DAYS;
 pub use crate::labels::{Label, Labels, labels_of, turn_of};
 pub use crate::steps::{LONG_STEPS, PLAIN_STEPS, SHORT_STEPS, STEP_MINUTES, steps_of, weekday_of};
-pub use crate::texts::{Day, day_of, text_of};
+pub use crate::texts::{day_of, text_of};

@@ -16,13 +16,6 @@ const CENTURY: u32 = 20;
 // What two bytes that are no digits stand for: more than any two digits do.
 const NO_PAIR: u32 = 100;
 
-// What a text stands for.
-#[derive(Clone, Copy)]
-pub enum Day {
-    Number(u32),
-    NoDay,
-}
-
 // The last digit of a number.
 pub fn digit(n: u32) -> u8
     ensures { result ≡ digit_of n }
@@ -68,26 +61,26 @@ pub fn pair(a: u8, b: u8) -> u32
 }
 
 // The day of a date in a century, where there is such a day.
-pub fn day_at(century: u32, year: u32, month: u32, day: u32) -> Day
+pub fn day_at(century: u32, year: u32, month: u32, day: u32) -> Option<u32>
     ensures { result ≡ day_at century (record { year = year; month = month; day = day }) }
 {
     if century != CENTURY {
-        return Day::NoDay;
+        return None;
     }
     let x = Date { year, month, day };
     if is_valid(x) {
-        Day::Number(number_of(x))
+        Some(number_of(x))
     } else {
-        Day::NoDay
+        None
     }
 }
 
 // The day that a text stands for, where it is the eight digits of one.
-pub fn day_of(s: &[u8]) -> Day
+pub fn day_of(s: &[u8]) -> Option<u32>
     ensures { result ≡ day_of s.now }
 {
     if s.len() != DIGITS {
-        return Day::NoDay;
+        return None;
     }
     day_at(
         pair(s[0], s[1]),

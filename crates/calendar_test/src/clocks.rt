@@ -2,39 +2,16 @@
 ghost use Rattle.std.specs.Prelude.{◌≤◌};
 ghost use Rattle.calendar.specs.Dates.{day_count};
 
-use crate::printing::{put, put_day, put_label, put_with};
-use calendar::{Advance, Clock, DAYS};
+use crate::printing::{label_bytes, text};
+use calendar::{Clock, DAYS};
 use refusals::number_of;
 use std::io;
 
-fn yes_or_no(rt: &impl Print, answer: bool) -> io::Result<()> {
-    if answer {
-        put(rt, b"yes")
-    } else {
-        put(rt, b"no")
-    }
-}
-
-fn one(counted: bool) -> u32
-    ensures { result ≤ 1 }
-{
-    if counted { 1 } else { 0 }
-}
-
 // How many steps of a day count.
-fn counted(clock: Clock, day: u32) -> u32 {
-    let steps = calendar::steps_of(day);
-    let mut n = 0;
-    for step in 0..steps {
-        n = n + one(clock.counts(day, step));
-    }
-    n
-}
-
-// How many steps of a day count, and from which on.
-fn put_counted(rt: &impl Print, clock: Clock, day: u32) -> io::Result<()> {
-    put_with(rt, b"", counted(clock, day))?;
-    put_with(rt, b" from ", clock.first_counted(day))
+fn counted(clock: Clock, day: u32) -> usize {
+    (0..calendar::steps_of(day))
+        .filter(|step| clock.counts(day, *step))
+        .count()
 }
 
 // A minute of a day: whether it is one, its first counted step with that step's label, and how many steps count on the
@@ -43,27 +20,25 @@ fn minute_line(rt: &impl Print, day: u32, minute: u32) -> io::Result<()>
     requires { (1 ≤ day) × (day ≤ day_count) }
 {
     let clock = Clock { day, minute };
-    let yesterday = day - 1;
-    let tomorrow = day + 1;
+    let date = calendar::text_of(day);
+    let moment = if clock.is_moment() { "yes" } else { "no" };
     let steps = calendar::steps_of(day);
     let first = clock.first_counted(day);
     let labels = calendar::labels_of(steps, first);
-    let from = labels.from;
-    put_day(rt, day)?;
-    put_with(rt, b" minute ", minute)?;
-    put(rt, b": moment ")?;
-    yes_or_no(rt, clock.is_moment())?;
-    put_with(rt, b", first ", first)?;
-    put_with(rt, b" of ", steps)?;
-    put(rt, b" ")?;
-    put_label(rt, from)?;
-    put_with(rt, b", counted ", counted(clock, day))?;
-    put(rt, b", tomorrow ")?;
-    put_counted(rt, clock, tomorrow)?;
-    put(rt, b", the day after ")?;
-    put_counted(rt, clock, day + 2)?;
-    put_with(rt, b", yesterday ", counted(clock, yesterday))?;
-    put(rt, b"\n")
+    let from = text(label_bytes(&labels.from));
+    print!(rt;
+        "{} minute {minute}: moment {moment}, first {first} of {steps} {from}, counted {}",
+        text(&date),
+        counted(clock, day),
+    )?;
+    println!(rt;
+        ", tomorrow {} from {}, the day after {} from {}, yesterday {}",
+        counted(clock, day + 1),
+        clock.first_counted(day + 1),
+        counted(clock, day + 2),
+        clock.first_counted(day + 2),
+        counted(clock, day - 1),
+    )
 }
 
 // 20210120, a day of 48 steps, and the eves of a day of 46 and of one of 50.
@@ -103,19 +78,14 @@ pub(crate) fn long_minutes(rt: &impl Print) -> io::Result<()> {
 }
 
 fn advance_line(rt: &impl Print, from: Clock, to: Clock) -> io::Result<()> {
-    put_with(rt, b"day ", from.day)?;
-    put_with(rt, b" minute ", from.minute)?;
-    put_with(rt, b" to day ", to.day)?;
-    put_with(rt, b" minute ", to.minute)?;
+    print!(rt;
+        "day {} minute {} to day {} minute {}",
+        from.day, from.minute, to.day, to.minute
+    )?;
     match from.advanced(to) {
-        Advance::Moved(_) => put(rt, b" moves\n"),
-        Advance::Refused(r) => {
-            if number_of(r) == 10 {
-                put(rt, b" is no moment\n")
-            } else {
-                put(rt, b" would go back\n")
-            }
-        }
+        Ok(_) => println!(rt; " moves"),
+        Err(r) if number_of(r) == 10 => println!(rt; " is no moment"),
+        Err(_) => println!(rt; " would go back"),
     }
 }
 

@@ -1,19 +1,13 @@
 // Every label of the three kinds of day, and what stands outside a day.
-use crate::printing::{put, put_label, put_with};
+use crate::printing::{label_bytes, text};
 use calendar::{LONG_STEPS, PLAIN_STEPS, SHORT_STEPS};
 use std::io;
 
 fn step_line(rt: &impl Print, steps: u32, step: u32) -> io::Result<()> {
     let labels = calendar::labels_of(steps, step);
-    let from = labels.from;
-    let until = labels.until;
-    put_with(rt, b"step ", step)?;
-    put_with(rt, b" of ", steps)?;
-    put(rt, b" ")?;
-    put_label(rt, from)?;
-    put(rt, b";")?;
-    put_label(rt, until)?;
-    put(rt, b"\n")
+    let from = text(label_bytes(&labels.from));
+    let until = text(label_bytes(&labels.until));
+    println!(rt; "step {step} of {steps} {from};{until}")
 }
 
 // Every step of a day, and the one after its last.

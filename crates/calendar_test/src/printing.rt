@@ -1,28 +1,13 @@
-// Texts, numbers, days and labels on standard output.
+// Days and labels as texts.
 use calendar::Label;
-use std::io;
 
-pub(crate) fn put(rt: &impl Print, text: &[u8]) -> io::Result<()> {
-    rt.write_all(text)
+// Bytes of the calendar's, all of them ASCII, as a text.
+pub(crate) fn text(bytes: &[u8]) -> &str {
+    std::str::from_utf8(bytes).unwrap_or("no text")
 }
 
-pub(crate) fn put_number(rt: &impl Print, n: u32) -> io::Result<()> {
-    rt.print(n)
-}
-
-// A text, and a number after it.
-pub(crate) fn put_with(rt: &impl Print, text: &[u8], n: u32) -> io::Result<()> {
-    put(rt, text)?;
-    put_number(rt, n)
-}
-
-pub(crate) fn put_day(rt: &impl Print, day: u32) -> io::Result<()> {
-    let text = calendar::text_of(day);
-    put(rt, &text)
-}
-
-pub(crate) fn put_label(rt: &impl Print, label: Label) -> io::Result<()> {
-    let bytes = label.bytes;
-    let n = bytes.len().min(label.len as usize);
-    put(rt, &bytes[..n])
+// The bytes that a label has.
+pub(crate) fn label_bytes(label: &Label) -> &[u8] {
+    let n = label.bytes.len().min(label.len as usize);
+    &label.bytes[..n]
 }

@@ -5,14 +5,13 @@ ghost use Rattle.std.specs.Prelude.{◌≡◌};
 ghost use Rattle.codes.specs.Codes.{is_letter, value_of, check_value, has_check};
 
 use lists::bytes::byte_at;
-use lists::numbers::byte;
 use notification::forms::is_digit;
 
 // Whether a byte is a letter from A to Z.
 fn is_letter(b: u8) -> bool
     ensures { result ≡ is_letter b }
 {
-    (b'A' <= b) & (b <= b'Z')
+    b.is_ascii_uppercase()
 }
 
 // The value of a character: 0 to 9 theirs, A to Z 10 to 35, a hyphen 36.
@@ -20,10 +19,10 @@ fn value_of(b: u8) -> u32
     ensures { result ≡ value_of b }
 {
     if is_digit(b) {
-        return byte(b) - 48;
+        return u32::from(b) - 48;
     }
     if is_letter(b) {
-        return 10 + (byte(b) - 65);
+        return 10 + (u32::from(b) - 65);
     }
     36
 }
@@ -40,10 +39,8 @@ pub fn has_check(s: &[u8]) -> bool
     ensures { result ≡ has_check s.now }
 {
     let mut sum: u32 = 0;
-    let mut i: usize = 0;
-    while i < 15 {
+    for i in 0..15 {
         sum += (16 - i as u32) * value_of(byte_at(s, i));
-        i += 1;
     }
     let value = check_value(sum);
     (value != 36) & (value_of(byte_at(s, 15)) == value)

@@ -1,5 +1,7 @@
 -- Each call keeps the reading: what an accepted one adds to the ledger is what its event adds to the events, and a refused one
 -- adds nothing to either.
+use Rattle.notification.specs.Reading.{note_of}
+use Rattle.std.specs.Prelude.{Err, Ok}
 use mathlib.Core.Path.{◌≡◌, refl, sym, ◌∙◌, ap, ap₂}
 use mathlib.Core.Bool.{Bool, true, false, cond, ◌&&◌}
 use mathlib.Core.List.{List, ◌∷◌, ◌++◌}
@@ -13,9 +15,7 @@ use Rattle.lists.specs.Searches.{same}
 use Rattle.lists.proofs.All.{all_more}
 use Rattle.calendar.specs.Clocks.{first_counted}
 use Rattle.calendar.proofs.StepCounts.{steps_small}
-use Rattle.refusals.specs.Tests.{decide}
-use Rattle.refusals.specs.declared.Verdict.{Verdict}
-use Rattle.refusals.specs.declared.Verdict.TheVariants.{Pass, No}
+use Rattle.refusals.specs.Tests.{decide, Verdict, pass, verdict}
 use Rattle.notification.specs.Forms.{category_text, in_places, places}
 use Rattle.notification.specs.declared.Notification.{Notification}
 use Rattle.ledger.specs.declared.Entry.{Entry}
@@ -97,11 +97,11 @@ key_under l submitter n ok c a z d =
     rw (actor_is l.actors n.key.ceder c ok.ceder, actor_is l.actors n.key.acquirer a ok.acquirer, category_is l.categories (category_text n.key.category) z ok.category, eqb_sym d n.key.day)
 
 module _ (l : Ledger) (h : List Event) (r : Reads l h) where
-  reads_file : (entry : Entry) (submitter : List ℕ) (form : Form) → FilingOk l submitter (read_form submitter form).notification → Spans l →
+  reads_file : (entry : Entry) (submitter : List ℕ) (form : Form) → FilingOk l submitter (note_of (read_form submitter form)) → Spans l →
       Reads (effect l (file entry submitter form)).ledger (event (file entry submitter form) l ∷ h)
   unfolding effect file_at event actors_of categories_of clock_of loaded_of approved_of power_of
   reads_file entry submitter form ok spans =
-      let n = (read_form submitter form).notification in
+      let n = (note_of (read_form submitter form)) in
       let k = key_of l n in
       let by = actor_at l.actors submitter in
       let paired = pairs by k n.powers l.records in
@@ -123,23 +123,23 @@ module _ (l : Ledger) (h : List Event) (r : Reads l h) where
 -- ---- EACH CALL KEEPS IT
 
 -- an accepted file is read, and its notification accepted
-file_passed : (v w : Verdict) → decide v w No ≡ Pass → w ≡ Pass
-file_passed Pass w e = e
-file_passed (No f) w e = let z : ◌≡◌ {A = ℕ} 0 1 = cc in absurd (omega arith)
+file_passed : (v w : Verdict) → decide v w Err ≡ pass → w ≡ pass
+file_passed (Ok u) w e = e
+file_passed (Err f) w e = let z : ◌≡◌ {A = ℕ} 0 1 = cc in absurd (omega arith)
 
 reads_decided : (l : Ledger) (h : List Event) (c : Call) (v : Verdict) → verdict_of l c ≡ v → Parties l → Spans l → Reads l h →
     Reads (decide v (effect l c) (refused_by l)).ledger (record { call = c; answer = (decide v (effect l c) (refused_by l)).answer } ∷ h)
 unfolding verdict_of event actors_of categories_of clock_of loaded_of approved_of power_of
-reads_decided l h (enrol_actor code first last) Pass e p t r = reads_actor l h r p code first last (actor_ok l code first last e)
-reads_decided l h (enrol_category text) Pass e p t r = reads_category l h r p text
-reads_decided l h (load a z d m ps) Pass e p t r =
+reads_decided l h (enrol_actor code first last) (Ok u) e p t r = reads_actor l h r p code first last (actor_ok l code first last e)
+reads_decided l h (enrol_category text) (Ok u) e p t r = reads_category l h r p text
+reads_decided l h (load a z d m ps) (Ok u) e p t r =
     let ok = load_ok l a z d m ps e in
     reads_load l h r a z d m ps ok (omega (arith, ok.per_step, steps_small d))
-reads_decided l h (file entry u form) Pass e p t r =
+reads_decided l h (file entry u form) (Ok w) e p t r =
     let x = read_form u form in
-    reads_file l h r entry u form (filing_ok l entry u x.notification (file_passed x.verdict _ e)) t
-reads_decided l h (advance d m) Pass e p t r = reads_advance l h r d m
-reads_decided l h c (No f) e p t r =
+    reads_file l h r entry u form (filing_ok l entry u (note_of x) (file_passed (verdict x) _ e)) t
+reads_decided l h (advance d m) (Ok u) e p t r = reads_advance l h r d m
+reads_decided l h c (Err f) e p t r =
     record {
       actors = r.actors;
       categories = r.categories;

@@ -1,5 +1,6 @@
 -- The examples of document 01, "Days and filings at the edge", that are marked † there, and those of document 02, K2, in one list
 -- carried by one proof: the calendar's, and those of filings, each as the answer that the ledger gives.
+use Rattle.std.specs.Prelude.{Err, Ok}
 use mathlib.Core.Path.{◌≡◌, refl}
 use mathlib.Core.List.{List, [], ◌∷◌, ◌++◌, map}
 use Prim.Native.Nat.{ℕ, ◌+◌}
@@ -15,14 +16,13 @@ use Rattle.notification.specs.Forms.{is_code, is_category, category_text, in_pla
 use Rattle.notification.specs.declared.Notification.{Notification}
 use Rattle.ledger.specs.declared.Entry.TheVariants.{SevenDays}
 use Rattle.ledger.specs.Statuses.{created}
-use Rattle.ledger.specs.Call.{Call, enrol_actor, enrol_category, load, advance}
+use Rattle.ledger.specs.Call.{Answered, Call, enrol_actor, enrol_category, load, advance}
 use Rattle.ledger.specs.Ledger.{Ledger, fresh, actor_at, category_at, has_load, loaded, approved, moved, power, acquired, ceded, gained, engagement}
 use Rattle.ledger.specs.Filing.{key_of, ceder_below, acquirer_above, ceder_above, acquirer_below, same_powers, pairs, next_id, filed, party_tests, day_tests, load_test, step_tests, place_tests}
 use Rattle.ledger.specs.Calls.{actor_tests, category_tests, load_ranged, load_tests, verdict_of, effect, step_note, step, file_at}
 use Rattle.ledger.specs.Asking.{engaged_at}
 use Rattle.ledger.specs.Whole.{after}
-use Rattle.ledger.specs.declared.Answer.{Answer}
-use Rattle.ledger.specs.declared.Answer.TheVariants.{Filed, Refused}
+use Rattle.ledger.specs.declared.Answer.TheVariants.{Filed}
 
 -- codes 17X100A100R000.. by their last two bytes, and the category 13120
 unfoldable pub eic : ℕ → ℕ → List ℕ
@@ -78,25 +78,25 @@ unfoldable pub two : ℕ → ℕ → Ledger
 two day minute = two_on day day minute
 
 -- what a filing so many days ahead is answered, and one for the day itself
-unfoldable pub answer_ahead : ℕ → ℕ → ℕ → Answer
+unfoldable pub answer_ahead : ℕ → ℕ → ℕ → Answered
 answer_ahead ahead today minute =
     (step_note (two_on (ahead + today) today minute) SevenDays first (note first second (ahead + today) 40)).answer
 
-unfoldable pub answer_at : ℕ → ℕ → Answer
+unfoldable pub answer_at : ℕ → ℕ → Answered
 answer_at day minute = answer_ahead 0 day minute
 
 -- a filing of 40 for the next day but at step 0, where the ceder doesn't have as much
-unfoldable pub much_at_zero : ℕ → Answer
+unfoldable pub much_at_zero : ℕ → Answered
 much_at_zero minute = (step_note (two_on plain_day 0 minute) SevenDays first (note_with first second plain_day (61 ∷ replicate 47 40))).answer
 
 -- the acquirer's answer where its powers are the ceder's but at step 0
-unfoldable pub but_at_zero : ℕ → Answer
+unfoldable pub but_at_zero : ℕ → Answered
 but_at_zero minute =
     (step_note (step_note (two plain_day minute) SevenDays first (note first second plain_day 40)).ledger SevenDays second
     (note_with first second plain_day (0 ∷ replicate 47 40))).answer
 
-unfoldable pub no_step : Answer
-no_step = Refused (State NoStep 0)
+unfoldable pub no_step : Answered
+no_step = Err (State NoStep 0)
 
 -- REPLACING 40 BY 5
 
@@ -113,7 +113,7 @@ ceded_on = exchange second third plain_day 30 (exchange first second plain_day 4
 unfoldable pub acquired_from : List ℕ → Ledger
 acquired_from other = exchange other first plain_day 35 (exchange first second plain_day 40 (three 60))
 
-unfoldable pub replacing : Ledger → Answer
+unfoldable pub replacing : Ledger → Answered
 replacing l = (step_note l SevenDays first (note first second plain_day 5)).answer
 
 -- the engagements of the three
@@ -123,40 +123,40 @@ each l = map (λ a. engaged_at l a category plain_day 47) (first ∷ second ∷ 
 -- THE LIST
 pub record Edge : Type 0 where
   pub days : Days
-  pub minute_942 : answer_at plain_day 942 ≡ Filed 1 created 33
-  pub minute_1068 : answer_at plain_day 1068 ≡ Filed 1 created 37
-  pub minute_1379 : answer_at plain_day 1379 ≡ Filed 1 created 47
+  pub minute_942 : answer_at plain_day 942 ≡ Ok (Filed 1 created 33)
+  pub minute_1068 : answer_at plain_day 1068 ≡ Ok (Filed 1 created 37)
+  pub minute_1379 : answer_at plain_day 1379 ≡ Ok (Filed 1 created 47)
   pub minute_1380 : answer_at plain_day 1380 ≡ no_step
-  pub short_1319 : answer_at short_day 1319 ≡ Filed 1 created 45
+  pub short_1319 : answer_at short_day 1319 ≡ Ok (Filed 1 created 45)
   pub short_1320 : answer_at short_day 1320 ≡ no_step
-  pub long_1439 : answer_at long_day 1439 ≡ Filed 1 created 49
+  pub long_1439 : answer_at long_day 1439 ≡ Ok (Filed 1 created 49)
   pub long_1440 : answer_at long_day 1440 ≡ no_step
   -- K2, for the next day: on an eve of 48 steps, of 46, of 50, and on the eves of these two, which have 48; for the day after it
-  pub eve_1409 : answer_ahead 1 0 1409 ≡ Filed 1 created 0
-  pub eve_1410 : answer_ahead 1 0 1410 ≡ Filed 1 created 1
-  pub short_eve_1349 : answer_ahead 1 short_day 1349 ≡ Filed 1 created 0
-  pub short_eve_1350 : answer_ahead 1 short_day 1350 ≡ Filed 1 created 1
-  pub long_eve_1469 : answer_ahead 1 long_day 1469 ≡ Filed 1 created 0
-  pub long_eve_1470 : answer_ahead 1 long_day 1470 ≡ Filed 1 created 1
-  pub eve_of_short : (answer_ahead 1 84 1409 ≡ Filed 1 created 0) × (answer_ahead 1 84 1410 ≡ Filed 1 created 1)
-  pub eve_of_long : (answer_ahead 1 301 1409 ≡ Filed 1 created 0) × (answer_ahead 1 301 1410 ≡ Filed 1 created 1)
-  pub two_days_ahead : (answer_ahead 2 0 1410 ≡ Filed 1 created 0) × (answer_ahead 2 short_day 1350 ≡ Filed 1 created 0) × (answer_ahead 2 long_day 1470 ≡ Filed 1 created 0)
+  pub eve_1409 : answer_ahead 1 0 1409 ≡ Ok (Filed 1 created 0)
+  pub eve_1410 : answer_ahead 1 0 1410 ≡ Ok (Filed 1 created 1)
+  pub short_eve_1349 : answer_ahead 1 short_day 1349 ≡ Ok (Filed 1 created 0)
+  pub short_eve_1350 : answer_ahead 1 short_day 1350 ≡ Ok (Filed 1 created 1)
+  pub long_eve_1469 : answer_ahead 1 long_day 1469 ≡ Ok (Filed 1 created 0)
+  pub long_eve_1470 : answer_ahead 1 long_day 1470 ≡ Ok (Filed 1 created 1)
+  pub eve_of_short : (answer_ahead 1 84 1409 ≡ Ok (Filed 1 created 0)) × (answer_ahead 1 84 1410 ≡ Ok (Filed 1 created 1))
+  pub eve_of_long : (answer_ahead 1 301 1409 ≡ Ok (Filed 1 created 0)) × (answer_ahead 1 301 1410 ≡ Ok (Filed 1 created 1))
+  pub two_days_ahead : (answer_ahead 2 0 1410 ≡ Ok (Filed 1 created 0)) × (answer_ahead 2 short_day 1350 ≡ Ok (Filed 1 created 0)) × (answer_ahead 2 long_day 1470 ≡ Ok (Filed 1 created 0))
   -- checks 32 to 35 are of the counted steps
-  pub unchecked_zero : (much_at_zero 1409 ≡ Refused (State CederBelow 0)) × (much_at_zero 1410 ≡ Filed 1 created 1)
+  pub unchecked_zero : (much_at_zero 1409 ≡ Err (State CederBelow 0)) × (much_at_zero 1410 ≡ Ok (Filed 1 created 1))
   pub ceded_on_lem : each ceded_on ≡ 20 ∷ 10 ∷ 80 ∷ []
-  pub replaced_35 : replacing ceded_on ≡ Refused (State AcquirerBelow 0)
+  pub replaced_35 : replacing ceded_on ≡ Err (State AcquirerBelow 0)
   -- on the day itself the place is the lowest counted step
-  pub replaced_35_later : replacing (step ceded_on (advance plain_day 942)).ledger ≡ Refused (State AcquirerBelow 33)
-  pub replaced_35_eve : replacing (step ceded_on (advance 0 1410)).ledger ≡ Refused (State AcquirerBelow 1)
+  pub replaced_35_later : replacing (step ceded_on (advance plain_day 942)).ledger ≡ Err (State AcquirerBelow 33)
+  pub replaced_35_eve : replacing (step ceded_on (advance 0 1410)).ledger ≡ Err (State AcquirerBelow 1)
   pub acquired_back : each (acquired_from third) ≡ 55 ∷ 40 ∷ 15 ∷ []
-  pub replaced_34 : replacing (acquired_from third) ≡ Refused (State CederAbove 0)
-  pub replaced_34_later : replacing (step (acquired_from third) (advance plain_day 942)).ledger ≡ Refused (State CederAbove 33)
-  pub replaced_34_eve : replacing (step (acquired_from third) (advance 0 1410)).ledger ≡ Refused (State CederAbove 1)
+  pub replaced_34 : replacing (acquired_from third) ≡ Err (State CederAbove 0)
+  pub replaced_34_later : replacing (step (acquired_from third) (advance plain_day 942)).ledger ≡ Err (State CederAbove 33)
+  pub replaced_34_eve : replacing (step (acquired_from third) (advance 0 1410)).ledger ≡ Err (State CederAbove 1)
   -- the same where it acquires from the acquirer itself: A to B and B to A are two keys
   pub acquired_opposite : each (acquired_from second) ≡ 55 ∷ 5 ∷ 50 ∷ []
-  pub replaced_34_opposite : replacing (acquired_from second) ≡ Refused (State CederAbove 0)
+  pub replaced_34_opposite : replacing (acquired_from second) ≡ Err (State CederAbove 0)
   -- not marked there: powers are compared at every step, counted or not
-  pub uncounted_differs : but_at_zero 942 ≡ Filed 2 created 33
+  pub uncounted_differs : but_at_zero 942 ≡ Ok (Filed 2 created 33)
 
 pub edge : Edge
 unfolding eic enters note_with note exchange two answer_ahead answer_at much_at_zero but_at_zero no_step three ceded_on acquired_from replacing each same place_of first_from date tomorrow number valid month_length leap_days before_year before_month steps_of last_sunday first_counted is_code is_category category_text in_places actor_at category_at has_load loaded approved moved power acquired ceded gained engagement key_of ceder_below acquirer_above ceder_above acquirer_below party_tests day_tests load_test step_tests place_tests same_powers pairs replaces_whole next_id filed actor_tests category_tests load_ranged loadable load_tests verdict_of file_at effect step_note step engaged_at

@@ -1,5 +1,6 @@
 -- One exchange filed by one party as a file and by the other as an object, then replaced, each party by the other form: it is paired and
 -- replaced as if both had filed files. And what an object is refused by that names another origin.
+use Rattle.std.specs.Prelude.{Err, Ok}
 use mathlib.Core.Path.{◌≡◌, refl}
 use mathlib.Core.List.{List, [], ◌∷◌, ◌++◌}
 use Prim.Native.Nat.{ℕ}
@@ -30,7 +31,7 @@ use Rattle.ledger.specs.Filing.{key_of, ceder_below, acquirer_above, ceder_above
 use Rattle.ledger.specs.Calls.{actor_tests, category_tests, load_ranged, load_tests, verdict_of, effect, step_note, step, file_at}
 use Rattle.ledger.specs.Asking.{engaged_at}
 use Rattle.ledger.specs.Whole.{after, answers_to}
-use Rattle.ledger.specs.declared.Answer.TheVariants.{Moved, Filed, Refused}
+use Rattle.ledger.specs.declared.Answer.TheVariants.{Moved, Filed}
 use Rattle.ledger.proofs.Examples.{eic, first, second, category, plain_day, enters, note_with, note}
 use Rattle.ledger.proofs.Winter.{spans, pair}
 use Rattle.ledger.proofs.Witness.{filing}
@@ -60,19 +61,19 @@ unfoldable pub replaced : Ledger
 replaced = after agreed replacing
 
 pub record EitherForm : Type 0 where
-  pub paired : (step (step entered (filing first 40)).ledger (sending second second 40)).answer ≡ Filed 2 validated 0
+  pub paired : (step (step entered (filing first 40)).ledger (sending second second 40)).answer ≡ Ok (Filed 2 validated 0)
   pub moved_40 : pair agreed 33 ≡ (20, 40)
-  pub answers : answers_to agreed replacing ≡ Moved ∷ Filed 3 created 33 ∷ Filed 4 validated 33 ∷ []
+  pub answers : answers_to agreed replacing ≡ Ok Moved ∷ Ok (Filed 3 created 33) ∷ Ok (Filed 4 validated 33) ∷ []
   pub records : spans replaced ≡ (validated, 33, 48) ∷ (answered, 33, 48) ∷ (updated, 0, 33) ∷ (answered, 0, 48) ∷ []
   pub kept_40 : pair replaced 32 ≡ (20, 40)
   pub moved_31 : pair replaced 33 ≡ (29, 31)
 
 -- 43, after 8 and before 20: of the other party, and where nobody is enrolled
 pub record OtherOrigin : Type 0 where
-  pub other_origin : (step entered (sending first second 40)).answer ≡ Refused (Input Origin 0)
-  pub zeros_first : (step entered (sending first second 0)).answer ≡ Refused (Input Zeros 0)
-  pub origin_first : (step fresh (sending first second 40)).answer ≡ Refused (Input Origin 0)
-  pub then_unknown : (step fresh (sending second second 40)).answer ≡ Refused (State CederUnknown 0)
+  pub other_origin : (step entered (sending first second 40)).answer ≡ Err (Input Origin 0)
+  pub zeros_first : (step entered (sending first second 0)).answer ≡ Err (Input Zeros 0)
+  pub origin_first : (step fresh (sending first second 40)).answer ≡ Err (Input Origin 0)
+  pub then_unknown : (step fresh (sending second second 40)).answer ≡ Err (State CederUnknown 0)
 
 pub either_form : EitherForm
 unfolding request sending entered agreed replacing replaced filing pair spans eic enters note_with note same place_of first_from date tomorrow number valid month_length leap_days before_year before_month steps_of last_sunday first_counted is_code is_category category_text in_places actor_at category_at has_load loaded approved moved power acquired ceded gained engagement key_of ceder_below acquirer_above ceder_above acquirer_below party_tests day_tests load_test step_tests place_tests same_powers pairs replaces_whole next_id filed actor_tests category_tests load_ranged loadable load_tests verdict_of file_at effect step_note step engaged_at pair_of text_of day_of label_of name_of header_of labels_text lines_of body_of formed digits all_zero key_in name_key header_key is_name is_header lines_in is_body head_line step_lines has_labels rest_of power_value_from is_power first_bad powers_in file_tests note_in read_file read_form tokens_from joined fits in_time moment_text moment_in is_moment_text is_day_text further parted step_of series_of object_of hour_label steps_for object_tokens is_object steps_in steps_read day_read Object.has_labels Object.first_bad powers_of object_tests request_in read_from

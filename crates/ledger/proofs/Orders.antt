@@ -1,5 +1,7 @@
 -- "Order" of document 01 and document 02, K3, for every ledger and all arguments: the numbers of the tests of each call, in the order in
 -- which they are tried, each with its place. The first test that is met refuses (`first_met`).
+use Rattle.refusals.specs.declared.Refusal.{Refusal}
+use Rattle.std.specs.Prelude.{Err, Ok, Result}
 use mathlib.Core.Path.{◌≡◌, refl, sym}
 use mathlib.Core.Bool.{Bool, cond, not}
 use mathlib.Core.List.{List, [], ◌∷◌, ◌++◌}
@@ -10,19 +12,15 @@ use Rattle.calendar.specs.Steps.{steps_of}
 use Rattle.calendar.specs.Clocks.{first_counted, advance_tests}
 use Rattle.calendar.specs.declared.clock.Clock.{Clock}
 use Rattle.refusals.specs.Numbers.{number_of, place_of}
-use Rattle.refusals.specs.Tests.{Test, input, first_met, decide}
+use Rattle.refusals.specs.Tests.{Test, input, first_met, decide, Verdict, pass, verdict}
 use Rattle.refusals.specs.declared.InputRefusal.TheVariants.{Origin}
-use Rattle.refusals.specs.declared.Verdict.{Verdict}
-use Rattle.refusals.specs.declared.Verdict.TheVariants.{Pass, No}
 use Rattle.refusals.proofs.Tests.{pass_append, refuse_append}
 use Rattle.refusals.proofs.Tables.{rows, unplaced}
-use Rattle.notification.specs.Reading.{file_tests, note_in, accepted, refused, read_file}
+use Rattle.notification.specs.Reading.{file_tests, note_in, read_file, note_of}
 use Rattle.notification.proofs.Orders.{labels_first}
 use Rattle.notification.specs.declared.Notification.{Notification}
-use Rattle.notification.specs.declared.Reading.{Reading}
 use Rattle.request.specs.Tokens.{tokens}
 use Rattle.request.specs.Objects.{Step}
-use Rattle.request.specs.Reading as Object
 use Rattle.request.specs.Reading.{text_at, steps_read, day_read, has_labels, no_step, first_bad, step_refusal, object_tests, request_in, read_from}
 use Rattle.ledger.specs.Ledger.{Ledger}
 use Rattle.ledger.specs.Call.{csv, json, filed_in, read_form, file}
@@ -67,26 +65,26 @@ module _ (l : Ledger) where
   filing_order submitter n = refl
 
   -- a form is read by its tests, whatever they are: these and then the filing's are one list
-  read_then_filing : (entry : Entry) (submitter : List ℕ) (tests : List Test) (read : Verdict → Reading) →
-      ((v : Verdict) → (read v).verdict ≡ v) → (v : Verdict) → first_met tests ≡ v →
-      decide (read v).verdict (first_met (filing_tests l entry submitter (read v).notification)) No
-      ≡ first_met (tests ++ filing_tests l entry submitter (read Pass).notification)
-  read_then_filing entry submitter tests read same Pass e =
-      rw (same Pass) (sym (pass_append tests (filing_tests l entry submitter (read Pass).notification) e))
-  read_then_filing entry submitter tests read same (No r) e =
-      rw (same (No r)) (sym (refuse_append r tests (filing_tests l entry submitter (read Pass).notification) e))
+  read_then_filing : (entry : Entry) (submitter : List ℕ) (tests : List Test) (read : Verdict → Result Notification Refusal) →
+      ((v : Verdict) → verdict (read v) ≡ v) → (v : Verdict) → first_met tests ≡ v →
+      decide (verdict (read v)) (first_met (filing_tests l entry submitter (note_of (read v)))) Err
+      ≡ first_met (tests ++ filing_tests l entry submitter (note_of (read pass)))
+  read_then_filing entry submitter tests read same (Ok u) e =
+      rw (same pass) (sym (pass_append tests (filing_tests l entry submitter (note_of (read pass))) e))
+  read_then_filing entry submitter tests read same (Err r) e =
+      rw (same (Err r)) (sym (refuse_append r tests (filing_tests l entry submitter (note_of (read pass))) e))
 
   -- "filing 1 to 8, then 20 to 36": the file's tests and then the filing's are one list
   pub file_then_filing : (entry : Entry) (submitter name body : List ℕ) →
       verdict_of l (file entry submitter (csv name body)) ≡ first_met (file_tests name body ++ filing_tests l entry submitter (note_in name body))
   unfolding verdict_of read_form read_file
   file_then_filing entry submitter name body =
-      read_then_filing entry submitter (file_tests name body) (λ v. decide v (accepted (note_in name body)) refused) same
+      read_then_filing entry submitter (file_tests name body) (λ v. decide v (Ok (note_in name body)) Err) same
       (first_met (file_tests name body)) refl
     where
-      same : (v : Verdict) → (decide v (accepted (note_in name body)) refused).verdict ≡ v
-      same Pass = refl
-      same (No r) = refl
+      same : (v : Verdict) → verdict (decide v (Ok (note_in name body)) Err) ≡ v
+      same (Ok u) = refl
+      same (Err r) = refl
 
   -- the same of an object: its tests, 43, and then the filing's
   pub object_then_filing : (entry : Entry) (submitter body : List ℕ) →
@@ -94,12 +92,12 @@ module _ (l : Ledger) where
       ≡ first_met (origin_tests submitter body ++ filing_tests l entry submitter (request_in (tokens body)).notification)
   unfolding verdict_of read_form read_from
   object_then_filing entry submitter body =
-      read_then_filing entry submitter (origin_tests submitter body) (λ v. filed_in (decide v (Object.accepted (request_in (tokens body))) Object.refused)) same
+      read_then_filing entry submitter (origin_tests submitter body) (λ v. filed_in (decide v (Ok (request_in (tokens body))) Err)) same
       (first_met (origin_tests submitter body)) refl
     where
-      same : (v : Verdict) → (filed_in (decide v (Object.accepted (request_in (tokens body))) Object.refused)).verdict ≡ v
-      same Pass = refl
-      same (No r) = refl
+      same : (v : Verdict) → verdict (filed_in (decide v (Ok (request_in (tokens body))) Err)) ≡ v
+      same (Ok u) = refl
+      same (Err r) = refl
 
   -- "Enrol 9, 10, 37, 36": an actor; a category has nothing that 10 could refuse
   pub actor_order : (code : List ℕ) (first last : ℕ) → rows (actor_tests l code first last) ≡ unplaced (9 ∷ 10 ∷ 37 ∷ 36 ∷ [])

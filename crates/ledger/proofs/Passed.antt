@@ -14,8 +14,7 @@ use Rattle.calendar.specs.Dates.{day_count}
 use Rattle.calendar.specs.Steps.{steps_of}
 use Rattle.calendar.specs.Clocks.{first_counted, is_moment, is_before, advance_tests, loadable}
 use Rattle.calendar.specs.declared.clock.Clock.{Clock}
-use Rattle.refusals.specs.Tests.{Test, state, first_met}
-use Rattle.refusals.specs.declared.Verdict.TheVariants.{Pass}
+use Rattle.refusals.specs.Tests.{Test, state, first_met, pass}
 use Rattle.refusals.specs.declared.StateRefusal.TheVariants.{ActorUnknown}
 use Rattle.refusals.proofs.Tests.{passes}
 use Rattle.notification.specs.Forms.{is_code, is_category, power_end}
@@ -26,7 +25,7 @@ use Rattle.ledger.specs.Filing.{key_of, in_contract, ceder_below, acquirer_above
 use Rattle.ledger.specs.Calls.{actor_tests, category_tests, load_ranged, load_tests}
 
 -- the test at a place of an accepted call is not met
-unmet : (ts : List Test) → first_met ts ≡ Pass → (i : ℕ) → i < length ts → (get_or ts i (true, state ActorUnknown)).0 ≡ false
+unmet : (ts : List Test) → first_met ts ≡ pass → (i : ℕ) → i < length ts → (get_or ts i (true, state ActorUnknown)).0 ≡ false
 unmet ts e i h = passes ts e i (true, state ActorUnknown) h
 
 -- ---- a filing
@@ -80,13 +79,13 @@ fits_of l k ps s a b c d =
     }
 
 -- the day is within the reach of the entry, whichever that is
-pub filing_near : (l : Ledger) (entry : Entry) (submitter : List ℕ) (n : Notification) → first_met (filing_tests l entry submitter n) ≡ Pass →
+pub filing_near : (l : Ledger) (entry : Entry) (submitter : List ℕ) (n : Notification) → first_met (filing_tests l entry submitter n) ≡ pass →
     (key_of l n).day ≤ l.clock.day + reach_of entry
 unfolding party_tests day_tests place_tests
 filing_near l entry submitter n e =
     ltb-false (l.clock.day + reach_of entry) (key_of l n).day (unmet (filing_tests l entry submitter n) e 7 (omega arith))
 
-pub filing_ok : (l : Ledger) (entry : Entry) (submitter : List ℕ) (n : Notification) → first_met (filing_tests l entry submitter n) ≡ Pass →
+pub filing_ok : (l : Ledger) (entry : Entry) (submitter : List ℕ) (n : Notification) → first_met (filing_tests l entry submitter n) ≡ pass →
     FilingOk l submitter n
 unfolding party_tests day_tests load_test step_tests place_tests
 filing_ok l entry submitter n e =
@@ -125,7 +124,7 @@ pub record ActorOk (l : Ledger) (code : List ℕ) (first last : ℕ) : Type 0 wh
   pub new : length l.actors ≤ actor_at l.actors code
   pub room : length l.actors < actor_places
 
-pub actor_ok : (l : Ledger) (code : List ℕ) (first last : ℕ) → first_met (actor_tests l code first last) ≡ Pass → ActorOk l code first last
+pub actor_ok : (l : Ledger) (code : List ℕ) (first last : ℕ) → first_met (actor_tests l code first last) ≡ pass → ActorOk l code first last
 unfolding actor_tests
 actor_ok l code first last e =
     let t = unmet (actor_tests l code first last) e in
@@ -145,7 +144,7 @@ pub record CategoryOk (l : Ledger) (text : List ℕ) : Type 0 where
   pub new : length l.categories ≤ category_at l.categories text
   pub room : length l.categories < category_places
 
-pub category_ok : (l : Ledger) (text : List ℕ) → first_met (category_tests l text) ≡ Pass → CategoryOk l text
+pub category_ok : (l : Ledger) (text : List ℕ) → first_met (category_tests l text) ≡ pass → CategoryOk l text
 unfolding category_tests
 category_ok l text e =
     let t = unmet (category_tests l text) e in
@@ -167,7 +166,7 @@ pub record LoadOk (l : Ledger) (actor category : List ℕ) (day most : ℕ) (ps 
   pub room : length l.loads < load_places
 
 pub load_ok : (l : Ledger) (actor category : List ℕ) (day most : ℕ) (ps : List ℕ) →
-    first_met (load_tests l actor category day most ps) ≡ Pass → LoadOk l actor category day most ps
+    first_met (load_tests l actor category day most ps) ≡ pass → LoadOk l actor category day most ps
 unfolding load_tests load_ranged
 load_ok l actor category day most ps e =
     let a = actor_at l.actors actor in
@@ -192,7 +191,7 @@ pub record AdvanceOk (l : Ledger) (to : Clock) : Type 0 where
   pub moment : is_moment to ≡ true
   pub forward : is_before to l.clock ≡ false
 
-pub advance_ok : (l : Ledger) (to : Clock) → first_met (advance_tests l.clock to) ≡ Pass → AdvanceOk l to
+pub advance_ok : (l : Ledger) (to : Clock) → first_met (advance_tests l.clock to) ≡ pass → AdvanceOk l to
 advance_ok l to e =
     let t = unmet (advance_tests l.clock to) e in
     record { moment = not-false _ (t 0 (omega arith)); forward = t 1 (omega arith) }

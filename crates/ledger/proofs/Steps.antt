@@ -1,13 +1,13 @@
 -- What holds of a ledger after any call: it is enough to show it of each call that is accepted, with what the call has
 -- shown. A form is read first, and then its notification is judged.
+use Rattle.notification.specs.Reading.{note_of}
+use Rattle.std.specs.Prelude.{Err, Ok}
 use mathlib.Core.Path.{◌≡◌, refl}
 use mathlib.Core.List.{List}
 use Prim.Native.Nat.{ℕ}
 use Rattle.calendar.specs.Clocks.{advance_tests}
-use Rattle.refusals.specs.Tests.{first_met, decide}
+use Rattle.refusals.specs.Tests.{first_met, decide, Verdict, verdict}
 use Rattle.refusals.specs.declared.Refusal.{Refusal}
-use Rattle.refusals.specs.declared.Verdict.{Verdict}
-use Rattle.refusals.specs.declared.Verdict.TheVariants.{Pass, No}
 use Rattle.refusals.proofs.Tests.{decided}
 use Rattle.notification.specs.Forms.{in_places}
 use Rattle.notification.specs.declared.Notification.{Notification}
@@ -20,16 +20,16 @@ use Rattle.ledger.specs.Calls.{Outcome, actor_tests, category_tests, load_tests,
 use Rattle.ledger.proofs.Passed.{FilingOk, filing_ok, ActorOk, actor_ok, CategoryOk, category_ok, LoadOk, load_ok, AdvanceOk, advance_ok}
 
 -- two verdicts in turn
-in_turn : (v w : Verdict) (done : Outcome) (refused : Refusal → Outcome) → decide (decide v w No) done refused ≡ decide v (decide w done refused) refused
-in_turn Pass w done refused = refl
-in_turn (No r) w done refused = refl
+in_turn : (v w : Verdict) (done : Outcome) (refused : Refusal → Outcome) → decide (decide v w Err) done refused ≡ decide v (decide w done refused) refused
+in_turn (Ok u) w done refused = refl
+in_turn (Err r) w done refused = refl
 
 pub step_file : (l : Ledger) (entry : Entry) (u : List ℕ) (form : Form) →
-    step l (file entry u form) ≡ decide (read_form u form).verdict (step_note l entry u (read_form u form).notification) (refused_by l)
+    step l (file entry u form) ≡ decide (verdict (read_form u form)) (step_note l entry u (note_of (read_form u form))) (refused_by l)
 unfolding step verdict_of effect step_note
 step_file l entry u form =
     let x = read_form u form in
-    in_turn x.verdict (first_met (filing_tests l entry u x.notification)) (file_note l u x.notification) (refused_by l)
+    in_turn (verdict x) (first_met (filing_tests l entry u (note_of x))) (file_note l u (note_of x)) (refused_by l)
 
 -- the actor, the load that a call hands in
 abbrev pub actor_of : List ℕ → ℕ → ℕ → Actor
@@ -68,8 +68,8 @@ module _ (l : Ledger) (P : Ledger → Type 0) (kept : Kept l P) where
       (λ e. kept.load a z day most ps (load_ok l a z day most ps e)) (λ r e. kept.refused)
   step_kept (file entry u form) =
       rw (step_file l entry u form)
-      (decided (λ o. P o.ledger) (read_form u form).verdict (step_note l entry u (read_form u form).notification) (refused_by l)
-      (λ e. note_kept entry u (read_form u form).notification) (λ r e. kept.refused))
+      (decided (λ o. P o.ledger) (verdict (read_form u form)) (step_note l entry u (note_of (read_form u form))) (refused_by l)
+      (λ e. note_kept entry u (note_of (read_form u form))) (λ r e. kept.refused))
   step_kept (advance day minute) =
       decided (λ o. P o.ledger) (first_met (advance_tests l.clock (moment day minute))) (effect l (advance day minute)) (refused_by l)
       (λ e. kept.clock day minute (advance_ok l (moment day minute) e)) (λ r e. kept.refused)

@@ -1,4 +1,5 @@
 -- DEMAND 3 PROVED of the ledger: what holds after every list of calls, by one induction over the list.
+use Rattle.std.specs.Prelude.{Ok}
 use mathlib.Core.Path.{◌≡◌, refl, sym, ◌∙◌, ap, ap₂, fun_ext}
 use mathlib.Core.Bool.{true, false}
 use mathlib.Core.List.{List, [], ◌∷◌}
@@ -17,7 +18,6 @@ use Rattle.ledger.specs.Calls.{step, file_at}
 use Rattle.ledger.specs.Asking.{engagement_tests, engaged_at, ask_engagement}
 use Rattle.ledger.specs.Reading.{Event, events, is_among, actors_of, categories_of, clock_of, loaded_of, approved_of, power_of, acquired_of, ceded_of}
 use Rattle.ledger.specs.Whole.{Asked, Holds, Demand3, after, answers_to}
-use Rattle.ledger.specs.declared.Engaged.TheVariants.{Power}
 use Rattle.ledger.proofs.Steps.{actor_of, step_kept}
 use Rattle.ledger.proofs.Sound.{Sound, sound_fresh, sound_step, frozen_step, ended_step}
 use Rattle.ledger.proofs.Names.{codes, codes_length, actor_known, category_known, actor_own, actor_kept, category_kept}
@@ -89,7 +89,7 @@ module _ (l : Ledger) (h : List Event) (r : Reads l h) where
   known_category : (z : List ℕ) → is_among z (categories_of h) ≡ true → category_at l.categories z < length l.categories
   known_category z e = category_known l.categories z (rw r.categories e)
 
-  answers : (a z : List ℕ) (d s : ℕ) → Asked h a z d s → ask_engagement l a z d s ≡ Power (engaged_at l a z d s)
+  answers : (a z : List ℕ) (d s : ℕ) → Asked h a z d s → ask_engagement l a z d s ≡ Ok (engaged_at l a z d s)
   unfolding ask_engagement engagement_tests
   answers a z d s q =
       rw (lt-ltb (actor_at l.actors a) (length l.actors) (known_actor a q.actor), lt-ltb (category_at l.categories z) (length l.categories) (known_category z q.category), lt-ltb s (steps_of d) q.in_day_lem)

@@ -1,6 +1,7 @@
 -- The winter case, run by the definitions: a notification is deleted by its own party, the other party files the deleted
 -- powers, and the exchange that comes of it is replaced by powers 9 MW lower. A register that pairs the deleted 40, the
 -- nearest record in time with the same powers, would move 40 at the third filing, where the ceder's own word is 31.
+use Rattle.std.specs.Prelude.{Ok}
 use mathlib.Core.Path.{◌≡◌, refl}
 use mathlib.Core.List.{List, [], ◌∷◌, map}
 use Prim.Native.Nat.{ℕ, ◌+◌, ◌-◌}
@@ -62,19 +63,19 @@ unfoldable pub pair : Ledger → ℕ → ℕ × ℕ
 pair l s = (engaged_at l first category plain_day s, engaged_at l second category plain_day s)
 
 pub record Winter : Type 0 where
-  pub filed_40 : one.answer ≡ Filed 1 created 33
+  pub filed_40 : one.answer ≡ Ok (Filed 1 created 33)
   -- one's own notification is not an answer to one's own
-  pub own_again : (by_first 40 one.ledger).answer ≡ Filed 2 created 33
-  pub filed_31 : two.answer ≡ Filed 2 created 33
+  pub own_again : (by_first 40 one.ledger).answer ≡ Ok (Filed 2 created 33)
+  pub filed_31 : two.answer ≡ Ok (Filed 2 created 33)
   pub deleted_40 : spans two.ledger ≡ (created, 33, 48) ∷ (deleted, 33, 48) ∷ []
-  pub not_paired : three.answer ≡ Filed 3 created 33
+  pub not_paired : three.answer ≡ Ok (Filed 3 created 33)
   pub nothing_moved : pair three.ledger 33 ≡ (60, 0)
-  pub paired_40 : four.answer ≡ Filed 4 validated 33
+  pub paired_40 : four.answer ≡ Ok (Filed 4 validated 33)
   pub paired_records : spans four.ledger ≡ (validated, 33, 48) ∷ (answered, 33, 48) ∷ (deleted, 33, 48) ∷ (deleted, 33, 48) ∷ []
   pub moved_40 : pair four.ledger 33 ≡ (20, 40)
-  pub again_31 : five.answer ≡ Filed 5 created 37
+  pub again_31 : five.answer ≡ Ok (Filed 5 created 37)
   pub not_yet : pair five.ledger 37 ≡ (20, 40)
-  pub replaced_by_31 : six.answer ≡ Filed 6 validated 37
+  pub replaced_by_31 : six.answer ≡ Ok (Filed 6 validated 37)
   pub replaced_records : spans six.ledger ≡
       (validated, 37, 48) ∷ (answered, 37, 48) ∷ (updated, 33, 37) ∷ (answered, 33, 48) ∷ (deleted, 33, 48) ∷ (deleted, 33, 48) ∷ []
   pub before_neutral_hour : pair six.ledger 32 ≡ (60, 0)

@@ -1,5 +1,6 @@
 -- What demand 3 speaks of happens: a list of calls in which each hypothesis of the theorem is met, with engagements other than
 -- the loaded powers and a next call that changes steps, though none that no longer counts.
+use Rattle.std.specs.Prelude.{Err, Ok}
 use mathlib.Core.Path.{◌≡◌, refl}
 use mathlib.Core.Bool.{true, false}
 use mathlib.Core.List.{List, [], ◌∷◌, ◌++◌}
@@ -26,7 +27,7 @@ use Rattle.ledger.specs.Calls.{actor_tests, category_tests, load_ranged, load_te
 use Rattle.ledger.specs.Asking.{engaged_at}
 use Rattle.ledger.specs.Reading.{Event, events, actors_of, categories_of, clock_of, loaded_of, approved_of, power_of, acquired_of, ceded_of}
 use Rattle.ledger.specs.Whole.{Asked, after, answers_to}
-use Rattle.ledger.specs.declared.Answer.TheVariants.{Moved, Held, Filed, Refused}
+use Rattle.ledger.specs.declared.Answer.TheVariants.{Moved, Held, Filed}
 use Rattle.ledger.proofs.Whole.{demand3}
 use Rattle.ledger.proofs.Examples.{eic, first, second, third, category, plain_day, enters, note_with, note}
 
@@ -56,7 +57,7 @@ pair l s = (engaged_at l first category plain_day s, engaged_at l second categor
 pub record Met : Type 0 where
   -- every call of the list is accepted
   pub accepted : answers_to fresh calls ≡
-      Held 1 ∷ Held 1 ∷ Held 1 ∷ Held 2 ∷ Held 2 ∷ Held 3 ∷ Filed 1 created 0 ∷ Filed 2 validated 0 ∷ Moved ∷ Filed 3 created 33 ∷ []
+      Ok (Held 1) ∷ Ok (Held 1) ∷ Ok (Held 1) ∷ Ok (Held 2) ∷ Ok (Held 2) ∷ Ok (Held 3) ∷ Ok (Filed 1 created 0) ∷ Ok (Filed 2 validated 0) ∷ Ok Moved ∷ Ok (Filed 3 created 33) ∷ []
   -- what is asked about is enrolled, and the step is one of the day
   pub asked : Asked told first category plain_day 20
   pub asked_other : Asked told second category plain_day 20
@@ -64,7 +65,7 @@ pub record Met : Type 0 where
   pub loads : (loaded_of told first category plain_day 20 ≡ 60) × (loaded_of told second category plain_day 20 ≡ 0)
   pub exchanged : (acquired_of told second category plain_day 20 ≡ 40) × (ceded_of told first category plain_day 20 ≡ 40)
   -- the next call is accepted and changes a step, and the clock after it no longer lets step 20 count
-  pub next_accepted : (step reached next).answer ≡ Filed 4 validated 33
+  pub next_accepted : (step reached next).answer ≡ Ok (Filed 4 validated 33)
   pub no_longer_counts : counts (clock_of (record { call = next; answer = (step reached next).answer } ∷ told)) plain_day 20 ≡ false
   -- the exchange that survives from step 33 on is the new one
   pub survives : (acquired_of (record { call = next; answer = (step reached next).answer } ∷ told) second category plain_day 33 ≡ 31)
@@ -73,7 +74,7 @@ pub record Met : Type 0 where
   pub still_counts : counts (clock_of (record { call = next; answer = (step reached next).answer } ∷ told)) plain_day 33 ≡ true
   pub changed : (pair reached 33 ≡ (20, 40)) × (pair (step reached next).ledger 33 ≡ (29, 31))
   -- a load for the clock's own day would change steps that no longer count: it is refused by 39
-  pub load_refused : (step reached (load third category plain_day 100 (replicate 48 50))).answer ≡ Refused (State LoadDay 0)
+  pub load_refused : (step reached (load third category plain_day 100 (replicate 48 50))).answer ≡ Err (State LoadDay 0)
   -- a call that moves the clock stops steps too
   pub stopped : counts (clock_of (record { call = advance plain_day 1068; answer = (step reached (advance plain_day 1068)).answer } ∷ told)) plain_day 36 ≡ false
 

@@ -1,23 +1,17 @@
 -- The read-only calls (document 01, "The ledger", "Calls" and "Order"): an actor's own engagement, a record by id, an actor's history.
-use Rattle.std.specs.Prelude.{Bool, cond, not, ◌&&◌, ◌||◌, List, [], ◌∷◌, ◌++◌, map, ℕ, ltb, eqb, length, get_or, drop, replicate}
+use Rattle.std.specs.Prelude.{Bool, cond, not, ◌&&◌, ◌||◌, List, [], ◌∷◌, ◌++◌, map, ℕ, ltb, eqb, length, get_or, drop, replicate, Result, Ok, Err}
 use Rattle.lists.specs.Searches.{place_of}
 use Rattle.lists.specs.Orders.{kept, order_by}
 use Rattle.calendar.specs.Steps.{steps_of}
 use Rattle.refusals.specs.Tests.{Test, input, state, first_met, decide}
 use Rattle.refusals.specs.declared.Refusal.{Refusal}
-use Rattle.refusals.specs.declared.Verdict.TheVariants.{Pass, No}
 use Rattle.refusals.specs.declared.InputRefusal.TheVariants.{Range}
 use Rattle.refusals.specs.declared.StateRefusal.TheVariants.{ActorUnknown, CategoryUnknown, NoRecord, NotAsker, Full}
 use Rattle.notification.specs.Forms.{six_bytes}
-use Rattle.notification.specs.Reading.{blank}
 use Rattle.notification.specs.declared.Notification.{Notification}
 use Rattle.ledger.specs.Ledger.{Rec, Ledger, actor_at, category_at, engagement}
 use Rattle.ledger.specs.Filing.{no_actor, no_category, nobody}
-use Rattle.ledger.specs.declared.Engaged.{Engaged}
-use Rattle.ledger.specs.declared.Engaged.TheVariants as Asked
 use Rattle.ledger.specs.declared.Shown.{Shown}
-use Rattle.ledger.specs.declared.Listed.{Listed}
-use Rattle.ledger.specs.declared.Listed.TheVariants as Ids
 
 -- ENGAGEMENT: 22, 23, 10
 unfoldable pub engagement_tests : Ledger → List ℕ → List ℕ → ℕ → ℕ → List Test
@@ -31,9 +25,9 @@ engagement_tests l actor category day s =
 unfoldable pub engaged_at : Ledger → List ℕ → List ℕ → ℕ → ℕ → ℕ
 engaged_at l actor category day s = engagement l (actor_at l.actors actor) (category_at l.categories category) day s
 
-unfoldable pub ask_engagement : Ledger → List ℕ → List ℕ → ℕ → ℕ → Engaged
+unfoldable pub ask_engagement : Ledger → List ℕ → List ℕ → ℕ → ℕ → Result ℕ Refusal
 ask_engagement l actor category day s =
-    decide (first_met (engagement_tests l actor category day s)) (Asked.Power (engaged_at l actor category day s)) Asked.Refused
+    decide (first_met (engagement_tests l actor category day s)) (Ok (engaged_at l actor category day s)) Err
 
 -- RECORD: 22, 40, 41
 
@@ -80,7 +74,6 @@ note_of l r =
 abbrev pub shown : Ledger → Rec → Shown
 shown l r =
     record {
-      verdict = Pass;
       submitter = code_at l r.submitter;
       notification = note_of l r;
       status = r.status;
@@ -88,12 +81,9 @@ shown l r =
       until = r.until;
     }
 
-abbrev pub not_shown : Refusal → Shown
-not_shown f = record { verdict = No f; submitter = replicate 16 0; notification = blank; status = 0; from = 0; until = 0 }
-
-unfoldable pub ask_record : Ledger → List ℕ → ℕ → Shown
+unfoldable pub ask_record : Ledger → List ℕ → ℕ → Result Shown Refusal
 ask_record l asker id =
-    decide (first_met (record_tests l asker id)) (shown l (get_or l.records (record_at l.records id) no_record)) not_shown
+    decide (first_met (record_tests l asker id)) (Ok (shown l (get_or l.records (record_at l.records id) no_record))) Err
 
 -- HISTORY: 22, 36
 
@@ -118,9 +108,9 @@ history_tests l actor room =
     ∷ (ltb room (length (history_of l actor)), state Full)
     ∷ []
 
-unfoldable pub ask_history : Ledger → List ℕ → ℕ → Listed
+unfoldable pub ask_history : Ledger → List ℕ → ℕ → Result ℕ Refusal
 ask_history l actor room =
-    decide (first_met (history_tests l actor room)) (Ids.Count (length (history_of l actor))) Ids.Refused
+    decide (first_met (history_tests l actor room)) (Ok (length (history_of l actor))) Err
 
 -- what the lent buffer holds afterwards: the ids from its beginning, the rest untouched; all of it untouched after a refusal
 unfoldable pub history_in : Ledger → List ℕ → List ℕ → List ℕ

@@ -1,30 +1,28 @@
 -- The calls of demand 3's list (document 01, "The ledger", "Calls" and "Order"): each is its tests in their order, then its effect.
-use Rattle.std.specs.Prelude.{Bool, not, ◌&&◌, List, [], ◌∷◌, ◌++◌, ℕ, suc, leb, ltb, eqb, length}
+use Rattle.notification.specs.Reading.{note_of}
+use Rattle.std.specs.Prelude.{Bool, not, ◌&&◌, List, [], ◌∷◌, ◌++◌, ℕ, suc, leb, ltb, eqb, length, Ok, Err}
 use Rattle.lists.specs.Searches.{every}
 use Rattle.calendar.specs.Dates.{day_count}
 use Rattle.calendar.specs.Steps.{steps_of}
 use Rattle.calendar.specs.Clocks.{first_counted, loadable, advance_tests}
 use Rattle.calendar.specs.declared.clock.Clock.{Clock}
-use Rattle.refusals.specs.Tests.{Test, input, state, first_met, decide}
+use Rattle.refusals.specs.Tests.{Test, input, state, first_met, decide, Verdict, verdict}
 use Rattle.refusals.specs.declared.Refusal.{Refusal}
-use Rattle.refusals.specs.declared.Verdict.{Verdict}
-use Rattle.refusals.specs.declared.Verdict.TheVariants.{No}
 use Rattle.refusals.specs.declared.InputRefusal.TheVariants.{Form, Range}
 use Rattle.refusals.specs.declared.StateRefusal.TheVariants.{ActorUnknown, CategoryUnknown, Full, There, LoadDay}
 use Rattle.notification.specs.Forms.{is_code, is_category, power_end, in_places}
 use Rattle.notification.specs.declared.Notification.{Notification}
-use Rattle.ledger.specs.Call.{read_form, Call, enrol_actor, enrol_category, load, file, advance}
+use Rattle.ledger.specs.Call.{Answered, read_form, Call, enrol_actor, enrol_category, load, file, advance}
 use Rattle.ledger.specs.declared.Actor.{Actor}
 use Rattle.ledger.specs.declared.Entry.{Entry}
 use Rattle.ledger.specs.Ledger.{Load, Key, Rec, Ledger, actor_places, category_places, load_places, actor_at, category_at, has_load}
 use Rattle.ledger.specs.Filing.{key_of, no_actor, no_category, filing_tests, pairs, status_by, next_id, filed}
-use Rattle.ledger.specs.declared.Answer.{Answer}
-use Rattle.ledger.specs.declared.Answer.TheVariants.{Moved, Held, Filed, Refused}
+use Rattle.ledger.specs.declared.Answer.TheVariants.{Moved, Held, Filed}
 
 -- the ledger that a call leaves, and its answer
 pub record Outcome : Type 0 where
   pub ledger : Ledger
-  pub answer : Answer
+  pub answer : Answered
 
 -- ENROL AN ACTOR: 9, 10, 37, 36
 
@@ -73,7 +71,7 @@ verdict_of l (enrol_category text) = first_met (category_tests l text)
 verdict_of l (load actor category day most ps) = first_met (load_tests l actor category day most ps)
 verdict_of l (file entry submitter form) =
     let x = read_form submitter form in
-    decide x.verdict (first_met (filing_tests l entry submitter x.notification)) No
+    decide (verdict x) (first_met (filing_tests l entry submitter (note_of x))) Err
 verdict_of l (advance day minute) = first_met (advance_tests l.clock (moment day minute))
 
 -- THE EFFECT OF AN ACCEPTED CALL
@@ -99,7 +97,7 @@ file_at l k by ps =
     let paired = pairs by k ps l.records in
     record {
       ledger = with_records l (filed paired l by k ps);
-      answer = Filed (next_id l) (status_by paired) (first_counted l.clock k.day);
+      answer = Ok (Filed (next_id l) (status_by paired) (first_counted l.clock k.day));
     }
 
 abbrev pub file_note : Ledger → List ℕ → Notification → Outcome
@@ -107,8 +105,8 @@ file_note l submitter n = file_at l (key_of l n) (actor_at l.actors submitter) n
 
 unfoldable pub effect : Ledger → Call → Outcome
 effect l (enrol_actor code first last) =
-    record { ledger = with_actor l (record { code = code; first = first; last = last }); answer = Held (suc (length l.actors)) }
-effect l (enrol_category text) = record { ledger = with_category l text; answer = Held (suc (length l.categories)) }
+    record { ledger = with_actor l (record { code = code; first = first; last = last }); answer = Ok (Held (suc (length l.actors))) }
+effect l (enrol_category text) = record { ledger = with_category l text; answer = Ok (Held (suc (length l.categories))) }
 effect l (load actor category day most ps) =
     record {
       ledger =
@@ -119,14 +117,14 @@ effect l (load actor category day most ps) =
             approved = most;
             powers = in_places ps;
           });
-      answer = Held (suc (length l.loads));
+      answer = Ok (Held (suc (length l.loads)));
     }
-effect l (file entry submitter form) = file_note l submitter (read_form submitter form).notification
-effect l (advance day minute) = record { ledger = with_clock l (moment day minute); answer = Moved }
+effect l (file entry submitter form) = file_note l submitter (note_of (read_form submitter form))
+effect l (advance day minute) = record { ledger = with_clock l (moment day minute); answer = Ok Moved }
 
 -- a refused call leaves the ledger as it was
 abbrev pub refused_by : Ledger → Refusal → Outcome
-refused_by l r = record { ledger = l; answer = Refused r }
+refused_by l r = record { ledger = l; answer = Err r }
 
 -- what a filing does once it is read: judged, then filed
 unfoldable pub step_note : Ledger → Entry → List ℕ → Notification → Outcome

@@ -1,22 +1,20 @@
 -- DEMAND 3 OF THE LEDGER: what holds after every list of calls.
-use Rattle.std.specs.Prelude.{◌≡◌, true, false, List, [], ◌∷◌, ℕ, ◌+◌, ◌≤◌, ◌<◌}
+use Rattle.std.specs.Prelude.{◌≡◌, true, false, List, [], ◌∷◌, ℕ, ◌+◌, ◌≤◌, ◌<◌, Ok}
 use Rattle.lists.specs.Sums.{sum_over}
 use Rattle.calendar.specs.Steps.{steps_of}
 use Rattle.calendar.specs.Clocks.{counts}
 use Rattle.ledger.specs.Ledger.{Ledger, Key, actor_at, category_at, power}
-use Rattle.ledger.specs.Call.{Call}
+use Rattle.ledger.specs.Call.{Answered, Call}
 use Rattle.ledger.specs.Calls.{step}
 use Rattle.ledger.specs.Asking.{engaged_at, ask_engagement}
 use Rattle.ledger.specs.Reading.{Event, events, actors_of, categories_of, is_among, clock_of, loaded_of, approved_of, power_of, acquired_of, ceded_of}
-use Rattle.ledger.specs.declared.Answer.{Answer}
-use Rattle.ledger.specs.declared.Engaged.TheVariants.{Power}
 
 -- the ledger that a list of calls leaves, each call given the ledger as the one before left it, and the answers
 abbrev pub after : Ledger → List Call → Ledger
 after l [] = l
 after l (c ∷ cs) = after (step l c).ledger cs
 
-abbrev pub answers_to : Ledger → List Call → List Answer
+abbrev pub answers_to : Ledger → List Call → List Answered
 answers_to l [] = []
 answers_to l (c ∷ cs) = (step l c).answer ∷ answers_to (step l c).ledger cs
 
@@ -34,7 +32,7 @@ key_by l c a z d =
 -- what holds of a ledger and the events that led to it
 pub record Holds (l : Ledger) (h : List Event) : Type 0 where
   -- the engagement call answers
-  pub answered : (a z : List ℕ) (d s : ℕ) → Asked h a z d s → ask_engagement l a z d s ≡ Power (engaged_at l a z d s)
+  pub answered : (a z : List ℕ) (d s : ℕ) → Asked h a z d s → ask_engagement l a z d s ≡ Ok (engaged_at l a z d s)
   -- loaded + acquired - ceded by the exchanges that survive
   pub engaged : (a z : List ℕ) (d s : ℕ) → Asked h a z d s →
       engaged_at l a z d s + ceded_of h a z d s ≡ loaded_of h a z d s + acquired_of h a z d s

@@ -3,7 +3,6 @@
 #![tactic(auto)]
 
 use notification::Notification;
-use refusals::{Refusal, Verdict};
 
 // An actor: its code and its contract, from a first to a last day, both included.
 #[repr(C)]
@@ -20,7 +19,7 @@ pub enum Entry {
     SevenDays,
 }
 
-// What a call of demand 3's list answers.
+// What an accepted call of demand 3's list answers.
 #[derive(Clone, Copy)]
 pub enum Answer {
     // The clock moved.
@@ -29,30 +28,14 @@ pub enum Answer {
     Held(u32),
     // The id, the status and the from-step of the record that a filing made.
     Filed(u32, u8, u32),
-    Refused(Refusal),
 }
 
-// What the engagement call answers.
-#[derive(Clone, Copy)]
-pub enum Engaged {
-    Power(u32),
-    Refused(Refusal),
-}
-
-// What the record call answers: the whole record, or a refusal beside a blank one.
+// What the record call answers where it is accepted: the whole record.
 #[derive(Clone, Copy)]
 pub struct Shown {
-    pub verdict: Verdict,
     pub submitter: [u8; 16],
     pub notification: Notification,
     pub status: u8,
     pub from: u32,
     pub until: u32,
-}
-
-// What the history call answers: how many ids it put into the lent buffer.
-#[derive(Clone, Copy)]
-pub enum Listed {
-    Count(u32),
-    Refused(Refusal),
 }

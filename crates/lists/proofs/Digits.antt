@@ -1,6 +1,6 @@
 -- What a digit's byte stands for, and the byte by it.
 use mathlib.Core.Path.{◌≡◌}
-use Prim.Native.Nat.{ℕ, ◌+◌, ◌-◌, ◌<◌, ◌≤◌}
+use Prim.Native.Nat.{ℕ, ◌+◌, ◌-◌, ◌%◌, ◌<◌, ◌≤◌}
 use native.Mathlib.Omega.{arith}
 use lib.Dec.{ltb}
 use borrow.Author.Tests.{ltb-true, ltb-false, lt-ltb, le-ltb}
@@ -14,6 +14,13 @@ value_below b h = rw (lt-ltb b 48 h)
 pub value_from_lem : (b : ℕ) → 48 ≤ b → b - 48 ≡ digit_value b
 unfolding digit_value
 value_from_lem b h = rw (le-ltb b 48 h)
+
+-- a byte below the digits wraps
+pub value_wraps : (b : ℕ) → b < 256 → (b + (4294967296 - 48)) % 4294967296 ≡ digit_value b
+value_wraps b h =
+    by_test (ltb b 48)
+    (λ t. omega (arith, value_below b (ltb-true b 48 t), ltb-true b 48 t))
+    (λ t. omega (arith, value_from_lem b (ltb-false b 48 t), ltb-false b 48 t))
 
 -- a value of a digit comes from its byte
 pub value_byte : (b : ℕ) → digit_value b ≤ 9 → b ≡ 48 + digit_value b

@@ -1,5 +1,6 @@
 -- Tests of lists, and searches in them.
-use Rattle.std.specs.Prelude.{Bool, true, false, cond, ◌&&◌, ◌||◌, List, [], ◌∷◌, ℕ, zero, suc, ◌+◌, eqb, drop}
+use Rattle.std.specs.Prelude.{Bool, true, false, cond, ◌&&◌, List, [], ◌∷◌, ℕ, zero, suc, ◌+◌, eqb, drop}
+use Rattle.std.specs.List.{list_all, list_any}
 
 -- two texts are the same, byte for byte
 unfoldable pub same : List ℕ → List ℕ → Bool
@@ -11,13 +12,11 @@ same (x ∷ xs) (y ∷ ys) = eqb x y && same xs ys
 module _ {A : Type 0} where
   -- every entry passes the test
   abbrev pub every : (A → Bool) → List A → Bool
-  every p [] = true
-  every p (x ∷ xs) = p x && every p xs
+  every p xs = list_all p xs
 
   -- some entry passes the test
   abbrev pub some : (A → Bool) → List A → Bool
-  some p [] = false
-  some p (x ∷ xs) = p x || some p xs
+  some p xs = list_any p xs
 
   -- the place, from 0, of the first entry that passes the test; the number of entries where none does
   unfoldable pub place_of : (A → Bool) → List A → ℕ

@@ -2,13 +2,11 @@
 ghost use Rattle.std.specs.Prelude.{◌≡◌, get_or};
 ghost use Rattle.lists.specs.Searches.{some, is_byte, byte_from};
 
-use crate::numbers::least_length;
-
 // The byte at a place, and 0 past the end.
 pub fn byte_at(s: &[u8], i: usize) -> u8
     ensures { result ≡ get_or s.now i 0 }
 {
-    if i < s.len() { s[i] } else { 0 }
+    s.get(i).copied().unwrap_or(0)
 }
 
 // Whether a text has a byte. Each of its bytes is looked at, so that many are compared at once.
@@ -16,10 +14,8 @@ pub fn has_byte(s: &[u8], b: u8) -> bool
     ensures { result ≡ some (is_byte b) s.now }
 {
     let mut found = false;
-    let mut i: usize = 0;
-    while i < s.len() {
-        found = found | (s[i] == b);
-        i += 1;
+    for x in s {
+        found |= *x == b;
     }
     found
 }
@@ -28,28 +24,26 @@ pub fn has_byte(s: &[u8], b: u8) -> bool
 pub fn byte_from(s: &[u8], from: usize, b: u8) -> usize
     ensures { result ≡ byte_from b s.now from }
 {
-    let mut i = from;
-    while i < s.len() {
+    for i in from..s.len() {
         if s[i] == b {
             return i;
         }
-        i += 1;
     }
-    i
+    from.max(s.len())
 }
 
-// The same of a byte that is likely far: sixteen others are passed at once.
+// The same of a byte that is likely far: sixteen others are passed at once. By index: a `for` over chunks of sixteen would
+// count by hand as well how far it came, since the search goes on from there.
 pub fn far_byte_from(s: &[u8], from: usize, b: u8) -> usize
     ensures { result ≡ byte_from b s.now from }
 {
-    let end = s.len() - least_length(s.len(), 15);
+    let end = s.len().saturating_sub(15);
     let mut i = from;
     while i < end {
-        let next = i + 16;
-        if has_byte(&s[i..next], b) {
+        if has_byte(&s[i..i + 16], b) {
             break;
         }
-        i = next;
+        i += 16;
     }
     byte_from(s, i, b)
 }

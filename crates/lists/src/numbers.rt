@@ -5,20 +5,20 @@ ghost use Rattle.lists.specs.Digits.{digit_value};
 pub fn least(a: u32, b: u32) -> u32
     ensures { result ≡ min a b }
 {
-    if a < b { a } else { b }
+    a.min(b)
 }
 
 // The same of two lengths.
 pub fn least_length(a: usize, b: usize) -> usize
     ensures { result ≡ min a b }
 {
-    if a < b { a } else { b }
+    a.min(b)
 }
 
 pub fn wide(x: u16) -> u32
     ensures { (result ≡ x) × (result ≤ 65535) }
 {
-    x as u32
+    u32::from(x)
 }
 
 pub fn byte(x: u8) -> u32
@@ -27,12 +27,10 @@ pub fn byte(x: u8) -> u32
     x as u32
 }
 
-// What a digit stands for, and more than 9 where a byte is no digit.
+// What a digit stands for, and more than 9 where a byte is no digit. A number and no Option: each caller's one test,
+// `< 10`, is of the range anyway.
 pub fn digit_value(b: u8) -> u32
     ensures { result ≡ digit_value b }
 {
-    if b < b'0' {
-        return b as u32 + 4294967248;
-    }
-    b as u32 - b'0' as u32
+    u32::from(b).wrapping_sub(u32::from(b'0'))
 }

@@ -47,15 +47,6 @@ copied_all n a s i h l e = sym (take_all i a (omega arith)) ∙ (e ∙ take_all 
 
 -- ---- a category's six bytes
 
-pub six_bytes_lem : (s : List ℕ) → get_or s 0 0 ∷ get_or s 1 0 ∷ get_or s 2 0 ∷ get_or s 3 0 ∷ get_or s 4 0 ∷ get_or s 5 0 ∷ [] ≡ six_bytes s
-six_bytes_lem [] = refl
-six_bytes_lem (a ∷ []) = refl
-six_bytes_lem (a ∷ b ∷ []) = refl
-six_bytes_lem (a ∷ b ∷ c ∷ []) = refl
-six_bytes_lem (a ∷ b ∷ c ∷ d ∷ []) = refl
-six_bytes_lem (a ∷ b ∷ c ∷ d ∷ e ∷ []) = refl
-six_bytes_lem (a ∷ b ∷ c ∷ d ∷ e ∷ f ∷ s) = refl
-
 -- a text of five bytes has a 0 behind it
 pub six_five : (s : List ℕ) → length s ≡ 5 → six_bytes s ≡ s ++ 0 ∷ []
 six_five s n = let e = take_filled 0 s 6 (omega arith) in rw n at e

@@ -11,8 +11,7 @@ use Rattle.lists.specs.Searches.{every, same}
 use Rattle.lists.proofs.Tests.{and_left, and_right}
 use Rattle.lists.proofs.Searches.{same_refl, same_true}
 use Rattle.calendar.specs.Steps.{steps_of}
-use Rattle.refusals.specs.Tests.{first_met}
-use Rattle.refusals.specs.declared.Verdict.TheVariants.{Pass}
+use Rattle.refusals.specs.Tests.{first_met, pass}
 use Rattle.refusals.proofs.Tests.{pass_all}
 use Rattle.notification.specs.Forms.{all_zero}
 use Rattle.notification.specs.Writing.{header_of, formed, ranged, note_tests}
@@ -43,7 +42,7 @@ module _ (name body : List ℕ) where
   abbrev ls : List (List ℕ)
   ls = step_lines body
 
-  pub file_passes : first_met (file_tests name body) ≡ Pass → Faultless name body
+  pub file_passes : first_met (file_tests name body) ≡ pass → Faultless name body
   unfolding file_tests
   file_passes e =
       let all = pass_all (file_tests name body) e in
@@ -58,7 +57,7 @@ module _ (name body : List ℕ) where
         some_power = all.1.1.1.1.1.1.0;
       }
 
-  pub passes_file : Faultless name body → first_met (file_tests name body) ≡ Pass
+  pub passes_file : Faultless name body → first_met (file_tests name body) ≡ pass
   unfolding file_tests
   passes_file f =
       let n = length ls in
@@ -76,7 +75,7 @@ pub record Writable (n : Notification) : Type 0 where
   pub not_zero : all_zero n.powers ≡ false
 
 module _ (n : Notification) where
-  pub note_passes : first_met (note_tests n) ≡ Pass → Writable n
+  pub note_passes : first_met (note_tests n) ≡ pass → Writable n
   unfolding ranged
   note_passes e =
       let all = pass_all (note_tests n) e in
@@ -96,7 +95,7 @@ module _ (n : Notification) where
         not_zero = all.1.1.0;
       }
 
-  pub passes_note : Writable n → first_met (note_tests n) ≡ Pass
+  pub passes_note : Writable n → first_met (note_tests n) ≡ pass
   unfolding ranged
   passes_note w =
       rw (w.a_form, lt-ltb n.key.day 36525 w.a_day, eq-eqb n.steps (steps_of n.key.day) w.its_steps, w.in_range_lem, w.zero_past, w.not_zero)

@@ -52,21 +52,7 @@ code_all s i good n h e =
     let t = take_all i s (omega arith) in
     rw (eq-eqb (length s) 16 n) (e ∙ ap (every is_code_byte) t)
 
-pub code_more : (s : List ℕ) (i : ℕ) (good b : Bool) → i < length s → good ≡ every is_code_byte (take i s) → b ≡ is_code_byte (get_or s i 0)
-    → (good && b) ≡ every is_code_byte (take (i + 1) s)
-code_more s i good b h e f = rw (every_more is_code_byte s i 0 h, e, f)
-
 -- ---- categories
-
-pub five_digits : (s : List ℕ) (a b c d e : Bool) → 5 ≤ length s
-    → a ≡ is_digit (get_or s 0 0) → b ≡ is_digit (get_or s 1 0) → c ≡ is_digit (get_or s 2 0) → d ≡ is_digit (get_or s 3 0) → e ≡ is_digit (get_or s 4 0)
-    → (a && (b && (c && (d && e)))) ≡ every is_digit (take 5 s)
-five_digits [] a b c d e h ea eb ec ed ee = absurd (omega arith)
-five_digits (_ ∷ []) a b c d e h ea eb ec ed ee = absurd (omega arith)
-five_digits (_ ∷ _ ∷ []) a b c d e h ea eb ec ed ee = absurd (omega arith)
-five_digits (_ ∷ _ ∷ _ ∷ []) a b c d e h ea eb ec ed ee = absurd (omega arith)
-five_digits (_ ∷ _ ∷ _ ∷ _ ∷ []) a b c d e h ea eb ec ed ee = absurd (omega arith)
-five_digits (v ∷ w ∷ x ∷ y ∷ z ∷ s) a b c d e h ea eb ec ed ee = rw (ea, eb, ec, ed, ee, and_end (is_digit z))
 
 pub category_five : (s : List ℕ) (d : Bool) → length s ≡ 5 → d ≡ every is_digit (take 5 s) → d ≡ is_category s
 unfolding is_category

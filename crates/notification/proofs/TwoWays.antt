@@ -10,14 +10,14 @@ use Rattle.lists.specs.Searches.{every}
 use Rattle.lists.proofs.Searches.{every_first}
 use Rattle.calendar.specs.Steps.{steps_of}
 use Rattle.calendar.proofs.StepCounts.{steps_small}
-use Rattle.refusals.specs.Tests.{first_met}
+use Rattle.refusals.specs.Tests.{first_met, verdict}
 use Rattle.refusals.proofs.Tests.{decide_pass}
 use Rattle.notification.specs.Forms.{in_places, places}
 use Rattle.notification.specs.Writing.{name_of, body_of, Writes}
-use Rattle.notification.specs.Reading.{name_key, step_lines, file_tests, note_in, accepted, refused, read_file}
+use Rattle.notification.specs.Reading.{name_key, step_lines, file_tests, note_in, note_of, read_file}
 use Rattle.notification.specs.declared.Key.{Key}
 use Rattle.notification.specs.declared.Notification.{Notification}
-use Rattle.notification.specs.declared.Reading.{Reading}
+use Rattle.std.specs.Prelude.{Ok, Err}
 use Rattle.notification.proofs.Lines.{joined}
 use Rattle.notification.proofs.Names.{name_key_lem, name_made, header_made, name_back}
 use Rattle.notification.proofs.Steps.{in_range, rows, rows_joined, rows_length, rows_powers, rows_good, powers_range, powers_rows, powers_length}
@@ -126,20 +126,20 @@ module _ (n : Notification) (six : length n.key.category ≡ 6) (fifty : length 
       let p : in_places (powers_read name body) ≡ n.powers = rw its_powers (take_places n.steps n.powers few fifty w.zero_past) in
       λ i. record { key = its_key i; steps = its_steps i; powers = p i }
 
-  written_read : read_file name body ≡ accepted n
+  written_read : read_file name body ≡ Ok n
   unfolding read_file
   written_read = rw (passes_file name body written_faultless, written_note)
 
 -- ---- both ways
 
-read_back : (name body : List ℕ) (n : Notification) → read_file name body ≡ accepted n → Writes n name body
+read_back : (name body : List ℕ) (n : Notification) → read_file name body ≡ Ok n → Writes n name body
 unfolding read_file
 read_back name body n e =
     let passed = first_met (file_tests name body) in
-    let d = decide_pass (λ (r : Reading). r.verdict) passed (accepted (note_in name body)) refused (accepted n) (λ r. refl) refl e in
-    rw (ap (λ (r : Reading). r.notification) d.1) at (read_written name body (file_passes name body d.0))
+    let d = decide_pass verdict passed (Ok (note_in name body)) Err (Ok n) (λ r. refl) refl e in
+    rw (ap note_of d.1) at (read_written name body (file_passes name body d.0))
 
 -- THE THEOREM: a file is read as a notification exactly where writing that notification gives that file
-pub two_ways : (name body : List ℕ) (n : Notification) → (read_file name body ≡ accepted n) ↔ Writes n name body
+pub two_ways : (name body : List ℕ) (n : Notification) → (read_file name body ≡ Ok n) ↔ Writes n name body
 two_ways name body n =
     (read_back name body n, λ w. rw (w.its_name, w.its_body) (written_read n w.six w.fifty (note_passes n w.passes)))

@@ -1,28 +1,24 @@
 -- How a file is read: the table "Refusals that come from the input" of document 01, row by row.
-use Rattle.std.specs.Prelude.{Bool, true, false, cond, not, ◌&&◌, List, [], ◌∷◌, ℕ, suc, ◌+◌, ◌-◌, ◌*◌, leb, ltb, eqb, length, get_or, take, drop, replicate}
+use Rattle.std.specs.Prelude.{Bool, true, false, cond, not, ◌&&◌, List, [], ◌∷◌, ℕ, suc, ◌+◌, ◌-◌, ◌*◌, leb, ltb, eqb, length, get_or, take, drop, replicate, Result, Ok, Err, None, Option, Some}
 use Rattle.lists.specs.Searches.{same, first_from}
 use Rattle.calendar.specs.Dates.{day_count}
 use Rattle.calendar.specs.Texts.{day_of}
 use Rattle.calendar.specs.Steps.{steps_of}
-use Rattle.calendar.specs.declared.texts.Day.{Day}
-use Rattle.calendar.specs.declared.texts.Day.TheVariants.{Number, NoDay}
 use Rattle.refusals.specs.Tests.{Test, input, first_met, decide}
 use Rattle.refusals.specs.declared.Refusal.{Refusal}
 use Rattle.refusals.specs.declared.Refusal.TheVariants.{Input}
 use Rattle.refusals.specs.declared.InputRefusal.TheVariants.{Name, Body, Header, Differs, Lines, Labels, Power, Zeros}
-use Rattle.refusals.specs.declared.Verdict.TheVariants.{Pass, No}
 use Rattle.notification.specs.Forms.{six_bytes, power_end, in_places, places, all_zero}
 use Rattle.notification.specs.Writing.{name_of, header_of, labels_text, power_text, formed}
 use Rattle.notification.specs.declared.Key.{Key}
 use Rattle.notification.specs.declared.Notification.{Notification}
-use Rattle.notification.specs.declared.Reading.{Reading}
 
 -- THE PARTS OF A NAME AND OF A HEADER
 
 -- the number of the day that eight digits stand for, and one past the last day where they stand for none
-abbrev pub day_number : Day → ℕ
-day_number (Number n) = n
-day_number NoDay = day_count
+abbrev pub day_number : Option ℕ → ℕ
+day_number (Some n) = n
+day_number None = day_count
 
 -- the key that stands in `ceder.acquirer.date.category`, by the places of its parts
 unfoldable pub key_in : List ℕ → Key
@@ -151,12 +147,11 @@ blank =
       powers = replicate places 0;
     }
 
-abbrev pub accepted : Notification → Reading
-accepted n = record { verdict = Pass; notification = n }
-
-abbrev pub refused : Refusal → Reading
-refused r = record { verdict = No r; notification = blank }
+-- the notification that a reading gives; a blank one where it is refused
+abbrev pub note_of : Result Notification Refusal → Notification
+note_of (Ok n) = n
+note_of (Err r) = blank
 
 -- WHAT READING A FILE COMES TO
-unfoldable pub read_file : List ℕ → List ℕ → Reading
-read_file name body = decide (first_met (file_tests name body)) (accepted (note_in name body)) refused
+unfoldable pub read_file : List ℕ → List ℕ → Result Notification Refusal
+read_file name body = decide (first_met (file_tests name body)) (Ok (note_in name body)) Err

@@ -1,20 +1,18 @@
 -- Name and body of a notification as they are written (document 01, "The notification file").
-use Rattle.std.specs.Prelude.{◌≡◌, Bool, not, ◌&&◌, ◌||◌, List, [], ◌∷◌, ◌++◌, ℕ, suc, ltb, eqb, length, take, drop}
+use Rattle.refusals.specs.declared.Refusal.{Refusal}
+use Rattle.notification.specs.declared.FileLengths.{FileLengths}
+use Rattle.std.specs.Prelude.{◌≡◌, Bool, not, ◌&&◌, ◌||◌, List, [], ◌∷◌, ◌++◌, ℕ, suc, ltb, eqb, length, take, drop, Result, Ok, Err}
 use Rattle.lists.specs.Searches.{every}
 use Rattle.calendar.specs.Dates.{day_count}
 use Rattle.calendar.specs.Texts.{text_of}
 use Rattle.calendar.specs.Steps.{steps_of}
 use Rattle.calendar.specs.Labels.{label_of}
-use Rattle.refusals.specs.Tests.{Test, input, state, first_met, decide}
+use Rattle.refusals.specs.Tests.{Test, input, state, first_met, decide, Verdict, pass}
 use Rattle.refusals.specs.declared.InputRefusal.TheVariants.{Form, Range, Zeros}
 use Rattle.refusals.specs.declared.StateRefusal.TheVariants.{Full}
-use Rattle.refusals.specs.declared.Verdict.{Verdict}
-use Rattle.refusals.specs.declared.Verdict.TheVariants.{Pass}
 use Rattle.notification.specs.Forms.{is_code, is_category, category_text, power_end, digits, places, all_zero}
 use Rattle.notification.specs.declared.Key.{Key}
 use Rattle.notification.specs.declared.Notification.{Notification}
-use Rattle.notification.specs.declared.Written.{Written}
-use Rattle.notification.specs.declared.Written.TheVariants.{Lengths, Refused}
 
 -- ceder, acquirer, date and category, parted by a byte
 abbrev pub key_text : ℕ → Key → List ℕ
@@ -71,9 +69,12 @@ too_short n name body = ltb name (length (name_of n.key)) || ltb body (length (b
 unfoldable pub write_verdict : Notification → ℕ → ℕ → Verdict
 write_verdict n name body = first_met (note_tests n ++ (too_short n name body, state Full) ∷ [])
 
-unfoldable pub write_answer : Notification → ℕ → ℕ → Written
+abbrev pub lengths : ℕ → ℕ → FileLengths
+lengths name body = record { name = name; body = body }
+
+unfoldable pub write_answer : Notification → ℕ → ℕ → Result FileLengths Refusal
 write_answer n name body =
-    decide (write_verdict n name body) (Lengths (length (name_of n.key)) (length (body_of n))) Refused
+    decide (write_verdict n name body) (Ok (lengths (length (name_of n.key)) (length (body_of n)))) Err
 
 -- what a lent buffer holds afterwards: the text from its beginning, the rest untouched; all of it untouched after a refusal
 unfoldable pub written : Verdict → List ℕ → List ℕ → List ℕ
@@ -83,6 +84,6 @@ written v text buffer = decide v (text ++ drop (length text) buffer) (λ r. buff
 pub record Writes (n : Notification) (name body : List ℕ) : Type 0 where
   pub six : length n.key.category ≡ 6
   pub fifty : length n.powers ≡ places
-  pub passes : first_met (note_tests n) ≡ Pass
+  pub passes : first_met (note_tests n) ≡ pass
   pub its_name : name ≡ name_of n.key
   pub its_body : body ≡ body_of n

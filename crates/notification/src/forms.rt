@@ -9,14 +9,14 @@ use lists::bytes::byte_at;
 pub fn is_digit(b: u8) -> bool
     ensures { result ≡ is_digit b }
 {
-    (b'0' <= b) & (b <= b'9')
+    b.is_ascii_digit()
 }
 
 // Whether a byte may stand in a code.
 pub fn is_code_byte(b: u8) -> bool
     ensures { result ≡ is_code_byte b }
 {
-    ((b'A' <= b) & (b <= b'Z')) | is_digit(b) | (b == b'-')
+    b.is_ascii_uppercase() | is_digit(b) | (b == b'-')
 }
 
 // Whether a text is sixteen characters of a code. Each byte is looked at, so that many are tested at once.
@@ -27,10 +27,8 @@ pub fn is_code(s: &[u8]) -> bool
         return false;
     }
     let mut good = true;
-    let mut i: usize = 0;
-    while i < 16 {
-        good = good & is_code_byte(s[i]);
-        i += 1;
+    for b in s {
+        good &= is_code_byte(*b);
     }
     good
 }
@@ -40,45 +38,27 @@ fn five_digits(s: &[u8]) -> bool
     requires { 5 ≤ length s.now }
     ensures { result ≡ every is_digit (take 5 s.now) }
 {
-    is_digit(s[0]) & (is_digit(s[1]) & (is_digit(s[2]) & (is_digit(s[3]) & is_digit(s[4]))))
+    s[..5].iter().all(|b| is_digit(*b))
 }
 
 // Whether a text is five digits, perhaps followed by C.
 pub fn is_category(s: &[u8]) -> bool
     ensures { result ≡ is_category s.now }
 {
-    if s.len() == 5 {
-        return five_digits(s);
+    match s.len() {
+        5 => five_digits(s),
+        6 => five_digits(s) & (s[5] == b'C'),
+        _ => false,
     }
-    if s.len() == 6 {
-        return five_digits(s) & (s[5] == b'C');
-    }
-    false
 }
 
-// A code in sixteen bytes.
-pub fn sixteen(s: &[u8]) -> [u8; 16]
-    ensures { result ≡ filled 16 s.now }
+// A code in sixteen bytes, or a category in six: 0 stands last where it has no C.
+pub fn in_bytes<const N: usize>(s: &[u8]) -> [u8; N]
+    ensures { result ≡ filled N s.now }
 {
-    let mut code = [0u8; 16];
-    let mut i: usize = 0;
-    while i < 16 {
-        code[i] = byte_at(s, i);
-        i += 1;
+    let mut bytes = [0; N];
+    for (i, b) in bytes.iter_mut().enumerate() {
+        *b = byte_at(s, i);
     }
-    code
-}
-
-// A category in six bytes: 0 stands last where it has no C.
-pub fn six(s: &[u8]) -> [u8; 6]
-    ensures { result ≡ six_bytes s.now }
-{
-    [
-        byte_at(s, 0),
-        byte_at(s, 1),
-        byte_at(s, 2),
-        byte_at(s, 3),
-        byte_at(s, 4),
-        byte_at(s, 5),
-    ]
+    bytes
 }

@@ -3,8 +3,6 @@
 
 pub mod forms;
 
-use refusals::{Refusal, Verdict};
-
 // A key: ceder, acquirer, category and day. Codes are sixteen bytes; a category without C ends with a 0.
 #[derive(Clone, Copy)]
 pub struct Key {
@@ -22,16 +20,9 @@ pub struct Notification {
     pub powers: [u16; 50],
 }
 
-// What reading a file comes to: a pass with the notification, or a refusal beside a blank one.
+// The lengths of a file's name and body.
 #[derive(Clone, Copy)]
-pub struct Reading {
-    pub verdict: Verdict,
-    pub notification: Notification,
-}
-
-// What writing a file comes to: the lengths of name and body, or a refusal.
-#[derive(Clone, Copy)]
-pub enum Written {
-    Lengths(usize, usize),
-    Refused(Refusal),
+pub struct FileLengths {
+    pub name: usize,
+    pub body: usize,
 }

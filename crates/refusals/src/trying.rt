@@ -1,41 +1,29 @@
-// Tests tried one after another: a verdict so far, and one test more.
-ghost use Rattle.std.specs.Prelude.{◌≡◌};
-ghost use Rattle.refusals.specs.Tests.{input, state, tried};
+// A test tried: where it is met, the call is refused.
+ghost use Rattle.std.specs.Prelude.{◌≡◌, cond, Ok, Err};
+ghost use Rattle.refusals.specs.Tests.{input, state};
 
-use crate::{InputRefusal, Refusal, StateRefusal, Verdict};
+use crate::{InputRefusal, Refusal, StateRefusal};
 
-// A refusal whose place isn't named.
-pub fn by_state(f: StateRefusal) -> Refusal
-    ensures { result ≡ state f }
+// Refuses where a test is met.
+pub fn refuse_if<E: Drop>(met: bool, refusal: E) -> Result<(), E>
+    ensures { result ≡ cond met (Err refusal) (Ok tt) }
 {
-    Refusal::State(f, 0)
+    if met { Err(refusal) } else { Ok(()) }
 }
 
-// One test more: where those before it pass and it is met, it refuses.
-fn try_one(v: Verdict, met: bool, r: Refusal) -> Verdict
-    ensures { result ≡ tried v (met, r) }
-{
-    match v {
-        Verdict::Pass => { if met { Verdict::No(r) } else { Verdict::Pass } }
-        Verdict::No(q) => Verdict::No(q),
+// A refusal whose place isn't named.
+impl From<InputRefusal> for Refusal {
+    ghost from_gives = { λ f r. r ≡ input f };
+
+    fn from(f: InputRefusal) -> Refusal {
+        Refusal::Input(f, 0)
     }
 }
 
-pub fn try_input(v: Verdict, met: bool, f: InputRefusal) -> Verdict
-    ensures { result ≡ tried v (met, input f) }
-{
-    try_one(v, met, Refusal::Input(f, 0))
-}
+impl From<StateRefusal> for Refusal {
+    ghost from_gives = { λ f r. r ≡ state f };
 
-pub fn try_state(v: Verdict, met: bool, f: StateRefusal) -> Verdict
-    ensures { result ≡ tried v (met, state f) }
-{
-    try_one(v, met, Refusal::State(f, 0))
-}
-
-// The same with its place.
-pub fn try_at(v: Verdict, met: bool, f: StateRefusal, place: u32) -> Verdict
-    ensures { result ≡ tried v (met, Refusal.State f place) }
-{
-    try_one(v, met, Refusal::State(f, place))
+    fn from(f: StateRefusal) -> Refusal {
+        Refusal::State(f, 0)
+    }
 }

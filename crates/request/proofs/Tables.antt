@@ -9,8 +9,7 @@ use lib.ListN.{length}
 use borrow.Author.Tests.{eqb-true, eq-eqb, leb-true, le-leb, le-ltb, not-false}
 use Rattle.lists.proofs.Tests.{and_left, and_right}
 use Rattle.calendar.specs.Steps.{steps_of}
-use Rattle.refusals.specs.Tests.{first_met}
-use Rattle.refusals.specs.declared.Verdict.TheVariants.{Pass}
+use Rattle.refusals.specs.Tests.{first_met, pass}
 use Rattle.refusals.proofs.Tests.{pass_all}
 use Rattle.notification.specs.Forms.{is_code, all_zero}
 use Rattle.notification.specs.Writing.{formed, ranged, note_tests}
@@ -39,7 +38,7 @@ module _ (s : List ℕ) where
   abbrev ts : List (List ℕ)
   ts = tokens s
 
-  pub object_passes : first_met (object_tests s) ≡ Pass → (length s ≤ object_most) × Faultless ts
+  pub object_passes : first_met (object_tests s) ≡ pass → (length s ≤ object_most) × Faultless ts
   unfolding object_tests
   object_passes e =
       let all = pass_all (object_tests s) e in
@@ -55,7 +54,7 @@ module _ (s : List ℕ) where
         },
       )
 
-  pub passes_object : length s ≤ object_most → Faultless ts → first_met (object_tests s) ≡ Pass
+  pub passes_object : length s ≤ object_most → Faultless ts → first_met (object_tests s) ≡ pass
   unfolding object_tests
   passes_object h f =
       let n = length (steps_read ts) in
@@ -71,7 +70,7 @@ pub record Fileable (r : Request) : Type 0 where
   pub a_moment : in_time r.moment ≡ true
 
 module _ (r : Request) where
-  pub request_passes : first_met (request_tests r) ≡ Pass → Fileable r
+  pub request_passes : first_met (request_tests r) ≡ pass → Fileable r
   request_passes e =
       let n = r.notification in
       let all = pass_all (request_tests r) e in
@@ -87,7 +86,7 @@ module _ (r : Request) where
         a_moment = and_right g m gm;
       }
 
-  pub passes_request : Fileable r → first_met (request_tests r) ≡ Pass
+  pub passes_request : Fileable r → first_met (request_tests r) ≡ pass
   passes_request w =
       let n = r.notification in
       let all = pass_all (note_tests n) (passes_note n w.note) in

@@ -1,14 +1,13 @@
 -- How an object is read. Document 02, K3: "42 when the text is over that, or isn't such an object apart from step count, labels and powers,
 -- in the place of 1 to 4, with 5 to 8 following, and the place of 6 and 7 the step counted from 1; 43 when the origin member isn't the
 -- submitter, next after 8".
-use Rattle.std.specs.Prelude.{Bool, cond, not, ◌&&◌, List, [], ◌∷◌, ◌++◌, ℕ, zero, suc, ◌+◌, ◌-◌, ◌/◌, leb, ltb, eqb, length, get_or, drop, replicate}
+use Rattle.std.specs.Prelude.{Bool, cond, not, ◌&&◌, List, [], ◌∷◌, ◌++◌, ℕ, zero, suc, ◌+◌, ◌-◌, ◌/◌, leb, ltb, eqb, length, get_or, drop, replicate, Result, Ok, Err}
 use Rattle.lists.specs.Searches.{every, same, first_from}
 use Rattle.calendar.specs.Steps.{steps_of}
 use Rattle.refusals.specs.Tests.{Test, input, first_met, decide}
 use Rattle.refusals.specs.declared.Refusal.{Refusal}
 use Rattle.refusals.specs.declared.Refusal.TheVariants.{Input}
 use Rattle.refusals.specs.declared.InputRefusal.TheVariants.{Object, Lines, Labels, Power, Zeros, Origin}
-use Rattle.refusals.specs.declared.Verdict.TheVariants.{Pass, No}
 use Rattle.notification.specs.Forms.{is_digit, is_code, is_category, six_bytes, in_places, all_zero}
 use Rattle.notification.specs.Reading.{power_value, is_power, blank}
 use Rattle.request.specs.Tokens.{quote, quoted, inside, tokens, fits, is, quoted_by}
@@ -16,7 +15,6 @@ use Rattle.request.specs.Moments.{moment_in, is_moment_text, is_day_text}
 use Rattle.request.specs.Objects.{Values, Step, object_of}
 use Rattle.request.specs.Writing.{hour_label, object_most}
 use Rattle.request.specs.declared.Request.{Request}
-use Rattle.request.specs.declared.RequestRead.{RequestRead}
 
 -- SUCH AN OBJECT
 
@@ -140,18 +138,17 @@ request_in ts =
 abbrev pub blank_request : Request
 blank_request = record { notification = blank; origin = replicate 16 0; moment = record { day = 0; second = 0 } }
 
-abbrev pub accepted : Request → RequestRead
-accepted r = record { verdict = Pass; request = r }
-
-abbrev pub refused : Refusal → RequestRead
-refused r = record { verdict = No r; request = blank_request }
+-- the request that a reading gives; a blank one where it is refused
+abbrev pub request_of : Result Request Refusal → Request
+request_of (Ok r) = r
+request_of (Err f) = blank_request
 
 -- WHAT READING AN OBJECT COMES TO
-unfoldable pub read_object : List ℕ → RequestRead
-read_object s = decide (first_met (object_tests s)) (accepted (request_in (tokens s))) refused
+unfoldable pub read_object : List ℕ → Result Request Refusal
+read_object s = decide (first_met (object_tests s)) (Ok (request_in (tokens s))) Err
 
 -- "43 when the origin member isn't the submitter, next after 8": what the object that a submitter files is read as
-unfoldable pub read_from : (submitter : List ℕ) → List ℕ → RequestRead
+unfoldable pub read_from : (submitter : List ℕ) → List ℕ → Result Request Refusal
 read_from submitter s =
     decide (first_met (object_tests s ++ (not (same (text_at 11 (tokens s)) submitter), input Origin) ∷ []))
-    (accepted (request_in (tokens s))) refused
+    (Ok (request_in (tokens s))) Err

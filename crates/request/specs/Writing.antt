@@ -1,11 +1,10 @@
 -- The object of a request as it is written, and what writing it comes to. Document 02, K3: "A writer takes a notification, an origin and a
 -- submission moment and gives the object without blanks".
-use Rattle.std.specs.Prelude.{◌≡◌, cond, not, ◌&&◌, List, [], ◌∷◌, ◌++◌, ℕ, suc, ◌≤◌, ltb, eqb, length, take, drop}
-use Rattle.refusals.specs.Tests.{Test, input, state, first_met, decide}
+use Rattle.refusals.specs.declared.Refusal.{Refusal}
+use Rattle.std.specs.Prelude.{◌≡◌, cond, not, ◌&&◌, List, [], ◌∷◌, ◌++◌, ℕ, suc, ◌≤◌, ltb, eqb, length, take, drop, Err, Ok, Result}
+use Rattle.refusals.specs.Tests.{Test, input, state, first_met, decide, Verdict, pass}
 use Rattle.refusals.specs.declared.InputRefusal.TheVariants.{Form, Range, Zeros}
 use Rattle.refusals.specs.declared.StateRefusal.TheVariants.{Full}
-use Rattle.refusals.specs.declared.Verdict.{Verdict}
-use Rattle.refusals.specs.declared.Verdict.TheVariants.{Pass}
 use Rattle.notification.specs.Forms.{is_code, category_text, digits, places, all_zero}
 use Rattle.notification.specs.Writing.{label_text, formed, ranged}
 use Rattle.notification.specs.declared.Notification.{Notification}
@@ -13,8 +12,6 @@ use Rattle.request.specs.Tokens.{quoted, tokens, joined}
 use Rattle.request.specs.Moments.{in_time, moment_text, midnight}
 use Rattle.request.specs.Objects.{Values, Step, object_of}
 use Rattle.request.specs.declared.Request.{Request}
-use Rattle.request.specs.declared.RequestWritten.{RequestWritten}
-use Rattle.request.specs.declared.RequestWritten.TheVariants.{Length, Refused}
 
 -- "Labels are `hhhmm`, the last end is `00h00`, long days use `_BIS`": the file's label with an h for its colon, and the day ends as it
 -- begins
@@ -63,8 +60,8 @@ request_tests r =
 unfoldable pub request_verdict : Request → ℕ → Verdict
 request_verdict r buffer = first_met (request_tests r ++ (ltb buffer (length (object_text r)), state Full) ∷ [])
 
-unfoldable pub request_answer : Request → ℕ → RequestWritten
-request_answer r buffer = decide (request_verdict r buffer) (Length (length (object_text r))) Refused
+unfoldable pub request_answer : Request → ℕ → Result ℕ Refusal
+request_answer r buffer = decide (request_verdict r buffer) (Ok (length (object_text r))) Err
 
 -- "a JSON body is at most 8,192 bytes"
 abbrev pub object_most : ℕ
@@ -75,6 +72,6 @@ object_most = 8192
 pub record WritesObject (r : Request) (s : List ℕ) : Type 0 where
   pub six : length r.notification.key.category ≡ 6
   pub fifty : length r.notification.powers ≡ places
-  pub passes : first_met (request_tests r) ≡ Pass
+  pub passes : first_met (request_tests r) ≡ pass
   pub its_tokens : tokens s ≡ object_tokens r
   pub short : length s ≤ object_most

@@ -5,7 +5,6 @@
 pub mod labels;
 
 use notification::Notification;
-use refusals::{Refusal, Verdict};
 
 // A moment: a day and a second of it.
 #[derive(Clone, Copy)]
@@ -20,18 +19,4 @@ pub struct Request {
     pub notification: Notification,
     pub origin: [u8; 16],
     pub moment: Moment,
-}
-
-// What reading an object comes to: a pass with the request, or a refusal beside a blank one.
-#[derive(Clone, Copy)]
-pub struct RequestRead {
-    pub verdict: Verdict,
-    pub request: Request,
-}
-
-// What writing an object comes to: its length, or a refusal.
-#[derive(Clone, Copy)]
-pub enum RequestWritten {
-    Length(usize),
-    Refused(Refusal),
 }

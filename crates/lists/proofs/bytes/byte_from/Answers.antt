@@ -1,5 +1,6 @@
 -- As long as the loop runs, the byte that is looked for from the place on is the one looked for at first.
 use mathlib.Core.Path.{◌∙◌}
+use Rattle.std.proofs.Common.{arith}
 use Rattle.lists.proofs.ByteSearch.{byte_here, byte_past, byte_nowhere}
 use Rattle.lists.proofs.bytes.byte_from.Goals as goal
 
@@ -19,4 +20,6 @@ pub returns : goal.returns
 returns c =
     let a = c.args in
     let l = c.loop-i in
-    byte_nowhere a.b a.s.now l.i c.loop-i-test.false ∙ l.invariant
+    let end = byte_nowhere a.b a.s.now l.i c.loop-i-test.false ∙ l.invariant in
+    let past = byte_nowhere a.b a.s.now a.from in
+    grind arith

@@ -3,11 +3,11 @@ use Rattle.notification.proofs.Tested.{category_five, category_six, category_non
 use borrow.Author.Rules.{rules}
 use Rattle.notification.proofs.forms.is_category.Goals as goal
 
-pub returns-then-s-eq5 : goal.returns-then-s-eq5
-returns-then-s-eq5 c = search (category_five, rules)
+pub returns-in-5 : goal.returns-in-5
+returns-in-5 c = search (category_five, rules)
 
-pub returns-then-s-eq6 : goal.returns-then-s-eq6
-returns-then-s-eq6 c = search (category_six, rules)
+pub returns-in-6 : goal.returns-in-6
+returns-in-6 c = search (category_six, rules)
 
-pub returns : goal.returns
-returns c = search (category_none, rules)
+pub returns-in_default : goal.returns-in_default
+returns-in_default c = search (category_none, rules)

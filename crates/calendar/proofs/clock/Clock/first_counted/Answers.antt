@@ -12,11 +12,8 @@ pub returns-then-day-self-gt1 : goal.returns-then-day-self-gt1
 returns-then-day-self-gt1 c =
     sym (first_further c.args.self c.args.day (omega (arith, c.if-day-self.false, c.if-day-self-gt1.true)))
 
-pub overflow_sub-result : goal.overflow_sub-result
-overflow_sub-result c = omega (arith, c.least.ensures)
-
 -- the day is the next one
 pub returns : goal.returns
 returns c =
     let next = first_tomorrow c.args.self c.args.day (omega (arith, c.if-day-self.false, c.if-day-self-gt1.false)) in
-    omega (arith, next, c.steps_of-steps.ensures, c.least.ensures)
+    omega (arith, next, c.steps_of-steps.ensures, c.saturating_sub.ensures)
