@@ -31,52 +31,21 @@ pub(crate) fn put_refusal(rt: &impl Print, r: Refusal) -> io::Result<()> {
 
 // A running sum that changes with each value and its place.
 fn mix(sum: u32, value: u32) -> u32 {
-    ((sum as u64 * 257 + value as u64) % 1000000007) as u32
+    ((u64::from(sum) * 257 + u64::from(value)) % 1000000007) as u32
 }
 
-fn mix_byte(sum: u32, byte: u8) -> u32 {
-    mix(sum, byte as u32)
-}
-
-fn mix_power(sum: u32, power: u16) -> u32 {
-    mix(sum, power as u32)
-}
-
-// The sum after a text's bytes.
-pub(crate) fn mixed(before: u32, text: &[u8]) -> u32 {
-    let mut sum = before;
-    let mut i: usize = 0;
-    while i < text.len() {
-        sum = mix_byte(sum, text[i]);
-        i += 1;
-    }
-    sum
-}
-
-// The sum after powers.
-fn mixed_powers(before: u32, powers: &[u16]) -> u32 {
-    let mut sum = before;
-    let mut i: usize = 0;
-    while i < powers.len() {
-        sum = mix_power(sum, powers[i]);
-        i += 1;
-    }
-    sum
+// The sum after bytes or powers.
+pub(crate) fn mixed<T: Copy + Into<u32>>(before: u32, values: &[T]) -> u32 {
+    values
+        .iter()
+        .fold(before, |sum, value| mix(sum, (*value).into()))
 }
 
 // A plain sum, of less than a million.
-fn add(sum: u32, power: u16) -> u32 {
-    ((sum as u64 + power as u64) % 1000000) as u32
-}
-
 fn total(powers: &[u16]) -> u32 {
-    let mut sum = 0;
-    let mut i: usize = 0;
-    while i < powers.len() {
-        sum = add(sum, powers[i]);
-        i += 1;
-    }
-    sum
+    powers.iter().fold(0, |sum, power| {
+        ((u64::from(sum) + u64::from(*power)) % 1000000) as u32
+    })
 }
 
 // The sum over all of a notification: codes, category, day, count of steps and powers.
@@ -90,7 +59,7 @@ fn mark(n: Notification) -> u32 {
     let second = mixed(first, &acquirer);
     let third = mixed(second, &category);
     let fourth = mix(mix(third, key.day), n.steps);
-    mixed_powers(fourth, &powers)
+    mixed(fourth, &powers)
 }
 
 pub(crate) fn put_notification(rt: &impl Print, n: Notification) -> io::Result<()> {

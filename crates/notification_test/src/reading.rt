@@ -44,8 +44,7 @@ pub(crate) fn other_name(
 ) -> io::Result<()> {
     let mut copy = [0u8; 4096];
     let n = replaced(&mut copy, name, from, until, piece);
-    let m = copy.len().min(n as usize);
-    file(rt, title, &copy[..m], body)
+    file(rt, title, &copy[..n.min(copy.len())], body)
 }
 
 // A file whose body has a piece in the place of a part.
@@ -60,8 +59,7 @@ pub(crate) fn other_body(
 ) -> io::Result<()> {
     let mut copy = [0u8; 65536];
     let n = replaced(&mut copy, body, from, until, piece);
-    let m = copy.len().min(n as usize);
-    file(rt, title, name, &copy[..m])
+    file(rt, title, name, &copy[..n.min(copy.len())])
 }
 
 // A file with another date in both name and header.
@@ -74,6 +72,5 @@ pub(crate) fn other_date(
 ) -> io::Result<()> {
     let mut copy = [0u8; 4096];
     let n = replaced(&mut copy, name, 38, 46, date);
-    let m = copy.len().min(n as usize);
-    other_body(rt, title, &copy[..m], body, 34, 42, date)
+    other_body(rt, title, &copy[..n.min(copy.len())], body, 34, 42, date)
 }

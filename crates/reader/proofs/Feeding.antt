@@ -2,7 +2,7 @@
 use mathlib.Core.Path.{◌≡◌, refl, sym, ap, ◌∙◌}
 use mathlib.Core.Bool.{Bool, true, false, not, ◌&&◌, ◌||◌}
 use mathlib.Core.List.{List, [], ◌∷◌, ◌++◌}
-use Prim.Native.Nat.{ℕ, ◌+◌, ◌<◌, ◌≤◌, min}
+use Prim.Native.Nat.{ℕ, ◌+◌, ◌-◌, ◌<◌, ◌≤◌, min}
 use native.Mathlib.Omega.{arith}
 use lib.Dec.{leb, ltb, eqb}
 use lib.ListN.{length, take, drop, length-append, length-take}
@@ -139,7 +139,7 @@ module _ (self : FileReader) (l : length self.header ≡ 51) (n s : ℕ) (a : n 
 -- a line in hand that only grows
 pub line_grown : (self : FileReader) (total : ℕ) (piece text line : List ℕ) (end k : ℕ) → end ≡ byte_from 10 piece 0 → length piece ≤ end
     → take (k + 1) text ≡ gone_on (take self.held self.line) piece end ++ 10 ∷ []
-    → (k ≡ length (gone_on (take self.held self.line) piece end)) × (k ≤ 64) → line ≡ take 64 text
+    → (k ≡ length (gone_on (take self.held self.line) piece end)) × (k ≤ 64) → take (length text - 0) line ≡ take 64 text
     → record {
       day = self.day;
       steps = min self.steps places;
@@ -152,9 +152,11 @@ pub line_grown : (self : FileReader) (total : ℕ) (piece text line : List ℕ) 
 unfolding continued
 line_grown self total piece text line end k w h e o f =
     let g = gone_on (take self.held self.line) piece end in
+    let m : k ≤ length text - 0 = omega (arith, ap length e, length-take (k + 1) text, length-append g (10 ∷ []), o.0) in
     let p : take k line ≡ g =
-    ap (take k) f
-    ∙ (take-take k 64 text o.1 ∙ (sym (take-take k (k + 1) text (omega arith)) ∙ (ap (take k) e ∙ take_at g (10 ∷ []) k (sym o.0))))
+    sym (take-take k (length text - 0) line m)
+    ∙ (ap (take k) f
+    ∙ (take-take k 64 text o.1 ∙ (sym (take-take k (k + 1) text (omega arith)) ∙ (ap (take k) e ∙ take_at g (10 ∷ []) k (sym o.0)))))
     in
     rw (← w, le-leb (length piece) end h, p)
 

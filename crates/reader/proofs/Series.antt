@@ -1,15 +1,16 @@
 -- What is kept after all steps, however they are told, is what the table says of them: their number, the first fault, the powers.
 use mathlib.Core.Path.{◌≡◌, refl, sym, ap, subst, ◌∙◌}
-use mathlib.Core.Bool.{true, false, cond, not, ◌&&◌}
+use mathlib.Core.Bool.{Bool, true, false, cond, not, ◌&&◌}
 use mathlib.Core.List.{List, [], ◌∷◌, ◌++◌}
 use Prim.Native.Nat.{ℕ, zero, suc, ◌+◌, ◌-◌, ◌<◌, ◌≤◌, min}
 use native.Mathlib.Nat.{zero-add}
-use native.Mathlib.Numerals.{add-one}
 use native.Mathlib.Omega.{arith}
 use lib.Dec.{eqb}
-use lib.ListN.{length, get_or, drop, replicate, set, length-replicate, drop_of_length-le}
-use lib.Seq.{drop-cons, sets, sets-eq}
+use lib.ListN.{length, drop, replicate, set, length-replicate}
+use lib.Seq.{sets, sets-eq}
 use borrow.Author.Tests.{eqb-true, eqb-false, eq-eqb, ne_eqb, lt-leb}
+use Rattle.std.specs.List.{list_all}
+use Rattle.lists.specs.Searches.{every}
 use Rattle.lists.proofs.Tests.{by_test}
 use Rattle.refusals.specs.Tests.{input, decide}
 use Rattle.refusals.specs.declared.Refusal.{Refusal}
@@ -49,25 +50,11 @@ module _ (steps : ℕ) (t : Tally) (ps : List ℕ) where
     unfolding outcome_of
     outcome_zeros v a = rw (eq-eqb t.lines steps h, v, a)
 
--- ---- whether every power is 0
+-- ---- every entry passes a test, as the library says it
 
-module _ (ps : List ℕ) (i : ℕ) (e : all_zero (drop i ps) ≡ all_zero ps) where
-  next_zero : i < length ps → (eqb (get_or ps i 0) 0 && all_zero (drop (i + 1) ps)) ≡ all_zero ps
-  unfolding all_zero
-  next_zero h = sym (rw (add-one i) (ap all_zero (drop-cons ps i 0 h))) ∙ e
-
-  -- one is not 0
-  pub zero_not : i < length ps → (get_or ps i 0 ≡ 0 → ⊥) → false ≡ all_zero ps
-  zero_not h f = rw (ne_eqb (get_or ps i 0) 0 f) at (next_zero h)
-
-  -- one more is
-  pub zero_more : i < length ps → get_or ps i 0 ≡ 0 → all_zero (drop (i + 1) ps) ≡ all_zero ps
-  zero_more h f = rw (eq-eqb (get_or ps i 0) 0 f) at (next_zero h)
-
-  -- each was looked at
-  pub zero_all : length ps ≤ i → true ≡ all_zero ps
-  unfolding all_zero
-  zero_all h = rw (drop_of_length-le ps h) at e
+pub every_all : {A : Type 0} (p : A → Bool) (xs : List A) → every p xs ≡ list_all p xs
+every_all p [] = refl
+every_all p (x ∷ xs) = ap (λ (b : Bool). p x && b) (every_all p xs)
 
 -- ---- the powers in their places
 

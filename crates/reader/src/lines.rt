@@ -34,14 +34,10 @@ fn rest_start(s: &[u8], from: usize) -> usize
     requires { from ≤ length s.now }
     ensures { result ≡ from + whole_to (drop from s.now) }
 {
-    let mut i = s.len();
-    while from < i {
-        if s[i - 1] == b'\n' {
-            return i;
-        }
-        i -= 1;
+    match s[from..].iter().rev().position(|b| *b == b'\n') {
+        Some(unfinished) => s.len() - unfinished,
+        None => from,
     }
-    from
 }
 
 // The name's header, where it comes first.

@@ -88,12 +88,9 @@ fn header_of(name: &[u8]) -> [u8; 51]
     requires { is_name name.now ≡ true }
     ensures { take (length name.now - 6) result ≡ header_of (name_key name.now) ++ 10 ∷ [] }
 {
+    let parts = &name[4..52];
     let mut header = [0u8; 51];
-    let mut i: usize = 0;
-    while i < 48 {
-        header[i] = name[i + 4];
-        i += 1;
-    }
+    header[..48].copy_from_slice(parts);
     header[16] = b';';
     header[33] = b';';
     header[42] = b';';
@@ -135,19 +132,10 @@ fn first_bytes(s: &[u8], from: usize) -> [u8; 64]
     requires { from ≤ length s.now }
     ensures { take (length s.now - from) result ≡ take 64 (drop from s.now) }
 {
+    let n = least_length(s.len() - from, HELD as usize);
+    let first = &s[from..from + n];
     let mut line = [0u8; 64];
-    let n = s.len() - from;
-    if n == 0 {
-        return line;
-    }
-    let mut i: usize = 0;
-    while i < n {
-        if HELD as usize <= i {
-            break;
-        }
-        line[i] = s[from + i];
-        i += 1;
-    }
+    line[..n].copy_from_slice(first);
     line
 }
 
@@ -157,39 +145,17 @@ fn whole_line(line: [u8; 64], held: u32, piece: &[u8], end: usize) -> WholeLine
     ensures text_value { take (result.length + 1) result.text ≡ gone_on (take held line) piece.now end ++ 10 ∷ [] }
     ensures length_value { (result.length ≡ length (gone_on (take held line) piece.now end)) × (result.length ≤ 64) }
 {
-    let n = least(held, HELD);
+    let n = least(held, HELD) as usize;
+    let more = least_length(end, HELD as usize - n);
+    let before = &line[..n];
+    let after = &piece[..more];
     let mut text = [b'\n'; 65];
-    let mut k: usize = 0;
-    while k < n as usize {
-        text[k] = line[k];
-        k += 1;
-    }
-    let mut i: usize = 0;
-    while i < end {
-        if HELD as usize <= k {
-            break;
-        }
-        text[k] = piece[i];
-        k += 1;
-        i += 1;
-    }
+    text[..n].copy_from_slice(before);
+    text[n..n + more].copy_from_slice(after);
     WholeLine {
         text,
-        length: k as u32,
+        length: (n + more) as u32,
     }
-}
-
-// The first 64 of 65 bytes.
-fn without_last(text: [u8; 65]) -> [u8; 64]
-    ensures { result ≡ take 64 text }
-{
-    let mut line = [0u8; 64];
-    let mut i: usize = 0;
-    while i < 64 {
-        line[i] = text[i];
-        i += 1;
-    }
-    line
 }
 
 // The key that a header's line and a day give.
@@ -267,8 +233,7 @@ impl FileReader {
             let mut next = self;
             next.length = total;
             next.held = whole.length;
-            let line = without_last(text);
-            next.line = line;
+            next.line = first_bytes(&text, 0);
             return next;
         }
         let header = self.header;

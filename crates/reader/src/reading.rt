@@ -36,14 +36,7 @@ pub fn refuse(r: Refusal) -> Reading
 fn is_zero(powers: [u16; 50]) -> bool
     ensures { result ≡ all_zero powers }
 {
-    let mut i: usize = 0;
-    while i < 50 {
-        if powers[i] != 0 {
-            return false;
-        }
-        i += 1;
-    }
-    true
+    powers.iter().all(|p| *p == 0)
 }
 
 // What the lines come to: their number, the first fault, whether a power isn't 0.

@@ -23,14 +23,7 @@ fn stands(line: &[u8], at: usize, text: &[u8], n: usize) -> bool
     if line.len() <= end {
         return false;
     }
-    let mut i: usize = 0;
-    while i < n {
-        if line[at + i] != text[i] {
-            return false;
-        }
-        i += 1;
-    }
-    line[end] == b';'
+    (line[at..end] == text[..n]) & (line[end] == b';')
 }
 
 // The power of a step's line, or what is wrong with it: the labels first.

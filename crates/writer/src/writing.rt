@@ -22,10 +22,8 @@ fn lines_length(steps: u32, powers: &[u16]) -> usize
     ensures { result ≡ length (lines_of steps 0 (take steps powers.now)) }
 {
     let mut sum: usize = 0;
-    let mut k: u32 = 0;
-    while k < steps {
+    for k in 0..steps {
         sum += line_length(steps, k, powers[k as usize]);
-        k += 1;
     }
     sum
 }
@@ -114,10 +112,8 @@ fn put_lines(buffer: &mut [u8], at: usize, steps: u32, powers: &[u16]) -> usize
         buffer.new result }
 {
     let mut next = at;
-    let mut k: u32 = 0;
-    while k < steps {
+    for k in 0..steps {
         next = put_line(&mut *buffer, next, steps, k, powers[k as usize]);
-        k += 1;
     }
     next
 }

@@ -3,11 +3,12 @@ use mathlib.Core.Path.{◌≡◌, sym, ◌∙◌}
 use Rattle.refusals.specs.Tests.{first_met}
 use Rattle.refusals.specs.declared.Verdict.TheVariants.{Pass}
 use Rattle.notification.specs.Writing.{note_tests}
-use Rattle.writer.proofs.Answers.{notes_tried, note_refused, note_formed, note_ranged, note_passed}
+use Rattle.writer.proofs.Answers.{notes_tried, note_refused, note_passed}
 use Rattle.writer.proofs.writing.write_verdict.Goals as goal
 use Rattle.writer.proofs.writing.write_verdict.Goals.{After-try_input-v-3, In_default}
 
 -- what is known when three tests are tried
+
 module _ (t : After-try_input-v-3) where
   noted : t.try_input-v-3.result ≡ first_met (note_tests t.args.n)
   noted =
@@ -21,12 +22,6 @@ passed c = sym (noted (goal.at.In_default c).After-try_input-v-3) ∙ c.in_defau
 pub returns-in-No : goal.returns-in-No
 returns-in-No c =
     note_refused c.args.n _ _ _ (sym (noted (goal.at.returns-in-No c).After-try_input-v-3) ∙ c.in-No.is)
-
-pub name_length-requires : goal.name_length-requires
-name_length-requires c = note_formed _ (passed c)
-
-pub body_length-requires : goal.body_length-requires
-body_length-requires c = (note_formed _ (passed (goal.at.body_length-requires c).In_default), note_ranged _ (passed (goal.at.body_length-requires c).In_default))
 
 pub returns : goal.returns
 returns c =

@@ -25,9 +25,6 @@ header_of-requires c = name-is (goal.at.header_of-requires c).Else-not-read
 pub overflow_cast-name : goal.overflow_cast-name
 overflow_cast-name c = omega (arith, (name_long c.args.name.now (name-is (goal.at.overflow_cast-name c).Else-not-read)).1)
 
-pub overflow_sub-name : goal.overflow_sub-name
-overflow_sub-name c = omega (arith, (name_long c.args.name.now (name-is (goal.at.overflow_sub-name c).Else-not-read)).0)
-
 pub returns : goal.returns
 returns c =
     begun_named c.args.name.now c.name_key-read.result c.name_key-read.ensures _ _ (not-false _ c.if-not-read.false)
