@@ -15,8 +15,7 @@ use Rattle.lists.proofs.Places.{place_some}
 use Rattle.lists.proofs.ByteSearch.{byte_nowhere}
 use Rattle.calendar.specs.Dates.{day_count, date}
 use Rattle.calendar.specs.Texts.{digit_of, text_of, day_of}
-use Rattle.calendar.specs.declared.texts.Day.{Day}
-use Rattle.calendar.specs.declared.texts.Day.TheVariants.{Number, NoDay}
+use Rattle.std.specs.Prelude.{Option, Some, None}
 use Rattle.calendar.proofs.TwoWays.{read_text}
 use Rattle.notification.specs.Reading.{day_number}
 use Rattle.ledger.specs.Call as Call
@@ -83,12 +82,12 @@ by_rest line {from} h more last =
     (λ t. let e : end ≡ length line = omega (arith, ltb-false end (length line) t, f.inside) in last (rw e at f))
 
 -- a text that is a date of a day, and one that is none
-pub dated : (s : List ℕ) (n : ℕ) → Number n ≡ day_of s → IsDay s n
+pub dated : (s : List ℕ) (n : ℕ) → Some n ≡ day_of s → IsDay s n
 dated s n e =
     let f = sym e in
     (rw f (lt-ltb n day_count (read_text s n f).0), rw f refl)
 
-pub undated : (s : List ℕ) → NoDay ≡ day_of s → is_day s ≡ false
+pub undated : (s : List ℕ) → None ≡ day_of s → is_day s ≡ false
 undated s e = let f = sym e in rw f refl
 
 -- a date has no comma, so one that the line ends with is its last field
@@ -99,12 +98,12 @@ day_plain s = go (day_of s) refl
     other : (k : ℕ) → eqb (digit_of k) comma ≡ false
     other k = ne_eqb (digit_of k) comma (λ e. omega (arith, e))
 
-    go : (d : Day) → day_of s ≡ d → ltb (day_number d) day_count ≡ true → some (is_byte comma) s ≡ false
-    go (Number n) e t =
+    go : (d : Option ℕ) → day_of s ≡ d → ltb (day_number d) day_count ≡ true → some (is_byte comma) s ≡ false
+    go (Some n) e t =
         let w : s ≡ text_of n = (read_text s n e).1 in
         let x = date n in
         rw (w, t, other (x.year / 10), other x.year, other (x.month / 10), other x.month, other (x.day / 10), other x.day) refl
-    go NoDay e t = true_false (ltb day_count day_count) t refl
+    go None e t = true_false (ltb day_count day_count) t refl
 
 pub day_last : (line : List ℕ) {from : ℕ} → from ≤ length line → is_day (cut line from (length line)) ≡ true → FieldEnd line from (length line)
 day_last line {from} h e = field_past line h (omega arith) (day_plain (cut line from (length line)) e) (byte_nowhere comma line (length line) (omega arith))

@@ -27,10 +27,7 @@ IsDay s day = (is_day s ≡ true) × (day ≡ day_in s)
 abbrev pub IsValue : List ℕ → ℕ → Type 0
 IsValue s v = (is_number s ≡ true) × (v ≡ value_of s)
 
--- a text is read as one or the other: its day, or its value, where it is one
-abbrev pub DayRead : List ℕ → Option ℕ → Type 0
-DayRead s found = MatchOption found (is_day s ≡ false) (IsDay s)
-
+-- a text is read as a number: its value, where it is one
 abbrev pub ValueRead : List ℕ → Option ℕ → Type 0
 ValueRead s found = MatchOption found (is_number s ≡ false) (IsValue s)
 

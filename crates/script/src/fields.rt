@@ -1,8 +1,7 @@
-// The fields of a line: where they end, and the days of those that are dates.
+// The fields of a line: where they end.
 ghost use Rattle.std.specs.Prelude.{◌≤◌, length};
-ghost use Rattle.script.specs.Walking.{FieldEnd, CommaFound, DayRead};
+ghost use Rattle.script.specs.Walking.{FieldEnd, CommaFound};
 
-use calendar::{Day, day_of};
 use lists::bytes::{byte_from, has_byte};
 
 // Where the field that starts at a place ends: at the next comma, or at the end of the line.
@@ -43,14 +42,4 @@ pub(crate) fn comma_past<const N: usize>(line: &[u8], from: usize) -> Option<usi
 {
     let end = long_end::<N>(line, from);
     if end < line.len() { Some(end) } else { None }
-}
-
-// The day of a date.
-pub(crate) fn day_in(s: &[u8]) -> Option<u32>
-    ensures { DayRead s.now result }
-{
-    match day_of(s) {
-        Day::Number(n) => Some(n),
-        Day::NoDay => None,
-    }
 }

@@ -5,8 +5,9 @@ ghost use Rattle.script.specs.Lines.{engagement_line, record_line};
 ghost use Rattle.script.specs.Spans.{start, names_file, line_read};
 ghost use Rattle.script.specs.Walking.{or_unknown, read_by};
 
-use crate::fields::{comma_from, comma_past, day_in};
+use crate::fields::{comma_from, comma_past};
 use crate::numbers::{count_in, number_in};
+use calendar::day_of;
 use lists::bytes::has_byte;
 
 // The bytes of a code and of a date.
@@ -64,7 +65,7 @@ fn advance(line: &[u8]) -> Option<Line>
     ensures { or_unknown result ≡ read_by line.now advance_line }
 {
     let date = comma_from(line, 2)?;
-    let day = day_in(&line[2..date])?;
+    let day = day_of(&line[2..date])?;
     let minute = number_in(&line[date + 1..])?;
     Some(Line {
         kind: Kind::Calls(CallKind::Advance),
@@ -81,8 +82,8 @@ fn enrol(line: &[u8]) -> Option<Line>
 {
     let code = comma_past::<CODE>(line, 2)?;
     let date = comma_from(line, code + 1)?;
-    let first = day_in(&line[code + 1..date])?;
-    let last = day_in(&line[date + 1..])?;
+    let first = day_of(&line[code + 1..date])?;
+    let last = day_of(&line[date + 1..])?;
     Some(Line {
         kind: Kind::Calls(CallKind::EnrolActor),
         first: code as u32,
@@ -132,7 +133,7 @@ fn engagement(line: &[u8]) -> Option<Line>
     let actor = comma_past::<CODE>(line, 2)?;
     let category = comma_from(line, actor + 1)?;
     let date = comma_past::<DATE>(line, category + 1)?;
-    let day = day_in(&line[category + 1..date])?;
+    let day = day_of(&line[category + 1..date])?;
     let step = number_in(&line[date + 1..])?;
     Some(Line {
         kind: Kind::Engagement,
@@ -168,7 +169,7 @@ fn load(line: &[u8]) -> Option<Line>
     let category = comma_from(line, actor + 1)?;
     let date = comma_past::<DATE>(line, category + 1)?;
     let end = comma_from(line, date + 1)?;
-    let day = day_in(&line[category + 1..date])?;
+    let day = day_of(&line[category + 1..date])?;
     let approved = number_in(&line[date + 1..end])?;
     let from = end + 1;
     let count = count_in(line, from)?;

@@ -1,6 +1,6 @@
 -- Each way through the fields.
 use native.Mathlib.Omega.{arith}
-use Rattle.script.proofs.LineKinds.{first_bad, second_bad, enrol_short, enrol_shorter, enrol_read, enrol_rest}
+use Rattle.script.proofs.LineKinds.{dated, undated, first_bad, second_bad, enrol_short, enrol_shorter, enrol_read, enrol_rest}
 use Rattle.script.proofs.reading.enrol.Goals as goal
 
 pub returns-in_err-code : goal.returns-in_err-code
@@ -13,14 +13,14 @@ returns-in_err-date c =
 pub returns-in_err-first : goal.returns-in_err-first
 returns-in_err-first c =
     let b = c.in_ok-date.ensures in
-    rw c.from_residual-in_err-first.ensures (enrol_rest _ _ c.in_ok-code.ensures.0 _ b.0 b.1 (first_bad _ c.in_err-first.ensures))
+    rw c.from_residual-in_err-first.ensures (enrol_rest _ _ c.in_ok-code.ensures.0 _ b.0 b.1 (first_bad _ (undated _ c.in_err-first.ensures)))
 
 pub returns-in_err-last : goal.returns-in_err-last
 returns-in_err-last c =
     let b = c.in_ok-date.ensures in
-    rw c.from_residual-in_err-last.ensures (enrol_rest _ _ c.in_ok-code.ensures.0 _ b.0 b.1 (second_bad c.in_ok-first.ensures.0 c.in_err-last.ensures))
+    rw c.from_residual-in_err-last.ensures (enrol_rest _ _ c.in_ok-code.ensures.0 _ b.0 b.1 (second_bad (dated _ _ c.in_ok-first.ensures).0 (undated _ c.in_err-last.ensures)))
 
 pub returns : goal.returns
 returns c =
     let b = c.in_ok-date.ensures in
-    enrol_read _ _ c.in_ok-code.ensures.0 _ b.0 b.1 c.in_ok-first.ensures c.in_ok-last.ensures
+    enrol_read _ _ c.in_ok-code.ensures.0 _ b.0 b.1 (dated _ _ c.in_ok-first.ensures) (dated _ _ c.in_ok-last.ensures)
