@@ -17,7 +17,7 @@ use Rattle.ledger.specs.declared.Shown.{Shown}
 use Rattle.answers.specs.Values.{said_engaged, said_shown, said_refused}
 use Rattle.answers.specs.declared.Said.{Said}
 use Rattle.register.specs.View.{Register, held}
-use Rattle.register.specs.Written.{does, does_reading}
+use Rattle.register.specs.Written.{Done, seen, does, does_reading}
 use Rattle.register.specs.Told.{told, tells}
 use Rattle.script.specs.Lines.{Asked, calls, file_of, engagement, record_of, unknown}
 use Rattle.script.specs.Spans.{first_text, second_text, powers_of, call_of, asked_of, asked}
@@ -25,6 +25,10 @@ use Rattle.script.specs.declared.reading.CallKind.{CallKind}
 use Rattle.script.specs.declared.reading.Kind.{Kind}
 use Rattle.script.specs.declared.reading.Kind.TheVariants.{Calls, Files, Engagement, RecordOf, Unknown}
 use Rattle.script.specs.declared.reading.Line.{Line}
+use Rattle.answers.specs.Values.{said_of}
+use Rattle.register.specs.declared.Reply.{Reply}
+use Rattle.session.specs.declared.store.Store.{Store}
+use Rattle.session.specs.Stores.{register_in}
 use Rattle.session.specs.Lines.{File, no_call, only_asks, ask_step, line_step}
 
 -- A LINE THAT ONLY ASKS is answered as the definition of a line's step has it
@@ -138,3 +142,9 @@ module _ (reg : Register) where
       told (does_reading reg SevenDays x reading) ≡ line_step reg (Some reading) (file_of x' y)
   unfolding line_step
   one_filed reading y f = rw f refl
+
+-- ---- a call leaves a head, and says something
+
+pub settled : {n next : Store} {said : Said} {d : Done} (y : Reply) → (next ≡ n) × (said ≡ said_of y.answer) → seen (register_in n) y.answer ≡ d →
+    tells (register_in next) said ≡ told d
+settled y e f = ap₂ (λ (n : Store) (a : Said). tells (register_in n) a) e.0 e.1 ∙ ap told f
