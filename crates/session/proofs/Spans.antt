@@ -1,9 +1,8 @@
 -- What a line does by what was read of it.
 use mathlib.Core.Path.{◌≡◌, refl, sym, ap, ap₂, ◌∙◌}
-use mathlib.Core.Bool.{true, false}
+use mathlib.Core.Bool.{true}
 use Rattle.std.specs.Prelude.{Some, None}
 use mathlib.Core.List.{List}
-use mathlib.Core.Logic.{◌⊎◌, inl, inr}
 use Prim.Native.Nat.{ℕ, ◌≤◌}
 use lib.ListN.{length, take}
 use lib.Seq.{length-take-le}
@@ -59,33 +58,10 @@ module _ (x y : List ℕ) (day n : ℕ) (powers : List ℕ) where
   asks_of RecordOf e f = refl
   asks_of Unknown e f = refl
 
-  does_of : (k : Kind) → (k ≡ Engagement → ⊥) → (k ≡ RecordOf → ⊥) → (k ≡ Unknown → ⊥) → false ≡ only_asks (asked_of k x y day n powers)
-  unfolding only_asks
-  does_of (Calls call) e f g = refl
-  does_of Files e f g = refl
-  does_of Engagement e f g = absurd (e refl)
-  does_of RecordOf e f g = absurd (f refl)
-  does_of Unknown e f g = absurd (g refl)
-
 module _ (line : List ℕ) (r : Line) where
   asked_by : {k : Kind} → r.kind ≡ k → asked line r ≡ asked_of k (first_text line r) (second_text line r) r.day r.number (powers_of line r)
   unfolding asked
   asked_by e = ap (λ (k : Kind). asked_of k (first_text line r) (second_text line r) r.day r.number (powers_of line r)) e
-
-  pub asks_engagement : r.kind ≡ Engagement → true ≡ only_asks (asked line r)
-  unfolding only_asks
-  asks_engagement e = ap only_asks (sym (asked_by e))
-
-  -- whether it only asks
-  pub asks_some : (r.kind ≡ Engagement) ⊎ ((r.kind ≡ RecordOf) ⊎ (r.kind ≡ Unknown)) → true ≡ only_asks (asked line r)
-  unfolding only_asks
-  asks_some (inl e) = asks_engagement e
-  asks_some (inr (inl e)) = ap only_asks (sym (asked_by e))
-  asks_some (inr (inr e)) = ap only_asks (sym (asked_by e))
-
-  pub asks_not : (r.kind ≡ Engagement → ⊥) → (r.kind ≡ RecordOf → ⊥) → (r.kind ≡ Unknown → ⊥) → false ≡ only_asks (asked line r)
-  unfolding asked
-  asks_not e f g = does_of (first_text line r) (second_text line r) r.day r.number (powers_of line r) r.kind e f g
 
   -- what a line that only asks says
   module _ (l : Ledger) {said : Said} where

@@ -1,9 +1,9 @@
 // The lines that only ask: E and R, and those of no known form.
-ghost use Rattle.std.specs.Prelude.{◌≡◌, List, ℕ};
+ghost use Rattle.std.specs.Prelude.{◌≡◌};
 ghost use Rattle.ledger.specs.Asking.{ask_engagement};
 ghost use Rattle.answers.specs.Values.{said_engaged};
 ghost use Rattle.script.specs.Spans.{first_text, second_text, asked};
-ghost use Rattle.session.specs.Lines.{only_asks, ask_step};
+ghost use Rattle.session.specs.Lines.{ask_step};
 ghost use Rattle.session.specs.Stores.{ledger_in};
 
 use crate::store::Store;
@@ -13,13 +13,6 @@ use script::reading::{Kind, Line};
 
 // What a line of no known form is refused by.
 pub(crate) const NO_CALL: u32 = 11;
-
-// Whether a line only asks.
-pub fn only_asks(read: Line) -> bool
-    ensures { (line : List ℕ) → result ≡ only_asks (asked line read) }
-{
-    matches!(read.kind, Kind::Engagement | Kind::RecordOf | Kind::Unknown)
-}
 
 // What a line says that asks for an engagement, by what was read of it.
 pub fn engaged(store: &Store, line: &[u8], read: Line) -> Said
