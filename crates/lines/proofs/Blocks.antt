@@ -13,12 +13,13 @@ use Rattle.notification.specs.declared.Reading.{Reading}
 use Rattle.reader.specs.InHand.{joined_pieces}
 use Rattle.reader.specs.declared.pieces.FileReader.{FileReader}
 use Rattle.reader.proofs.InPieces.{Fed, Ends, read_in_pieces}
-use Rattle.tables.specs.Tables.{Columns, LoadColumns, columns, load_columns}
+use Rattle.tables.specs.Tables.{Columns, LoadColumns}
 use Rattle.register.specs.View.{Register, lent, held}
 use Rattle.register.specs.declared.Fresh.{Fresh}
 use Rattle.register.proofs.Runs.{Begun}
 use Rattle.script.specs.Spans.{cut}
 use Rattle.session.specs.Lines.{File}
+use Rattle.session.specs.Stores.{register_in}
 use Rattle.lines.specs.Scripts.{Files, Found}
 use Rattle.lines.specs.Walking.{held_of, ended, ended_at, Walked, stands, walk, NamedIf}
 use Rattle.lines.specs.declared.answering.Wants.{Wants}
@@ -49,23 +50,17 @@ pub data Ended : List ℕ → ℕ → ℕ → List ℕ → Type 1 where
 
 -- `answer_lines`: what is given of the first file, the input, and how far the lines were before and after
 pub data Went : Option File → List ℕ → Walked → Walked → Type 1 where
-  goes : (κs : Lifetimes.Lfts 10) (a : World.ArgsD answer-fn.signature κs) (y : Progress) (s : Clauses.AtExit (Kinds.ended_of 10 answer-kinds.ps answer-kinds.r) κs) →
+  goes : (κs : Lifetimes.Lfts 3) (a : World.ArgsD answer-fn.signature κs) (y : Progress) (s : Clauses.AtExit (Kinds.ended_of 3 answer-kinds.ps answer-kinds.r) κs) →
       (answer-reads.Asked κs a → answer-reads.Post κs a y s) →
-      Went a.1.1.1.1.1.1.1.1.1.1.1.1.1.1.0 a.1.1.1.1.1.1.1.1.1.1.0.now
-      (stands
-      (lent a.0 (columns a.1.0.now a.1.1.0.now a.1.1.1.0.now a.1.1.1.1.0.now a.1.1.1.1.1.0.now)
-      (load_columns a.1.1.1.1.1.1.0.now a.1.1.1.1.1.1.1.0.now a.1.1.1.1.1.1.1.1.0.now))
-      a.1.1.1.1.1.1.1.1.1.0 a.1.1.1.1.1.1.1.1.1.1.1.0 a.1.1.1.1.1.1.1.1.1.1.1.1.0.now a.1.1.1.1.1.1.1.1.1.1.1.1.1.0 Input)
-      (stands
-      (lent y.head (columns s.1.0.now s.1.1.0.now s.1.1.1.0.now s.1.1.1.1.0.now s.1.1.1.1.1.0.now)
-      (load_columns s.1.1.1.1.1.1.0.now s.1.1.1.1.1.1.1.0.now s.1.1.1.1.1.1.1.1.0.now))
-      y.number y.at s.1.1.1.1.1.1.1.1.1.1.1.1.0.now y.out y.wants)
+      Went a.1.1.1.1.1.1.0 a.1.1.0.now
+      (stands (register_in a.0.now) a.1.0 a.1.1.1.0 a.1.1.1.1.0.now a.1.1.1.1.1.0 Input)
+      (stands (register_in s.0.now) y.number y.at s.1.1.1.1.0.now y.out y.wants)
 
 -- WHAT EACH OF THEM ASKS ALWAYS HOLDS
 pub record AsksNothing : Type 1 where
   pub hold : (κs : Lifetimes.Lfts 1) (a : World.ArgsD hold-fn.signature κs) → hold-reads.Asked κs a
   pub end_line : (κs : Lifetimes.Lfts 1) (a : World.ArgsD end-fn.signature κs) → end_reads.Asked κs a
-  pub answer_lines : (κs : Lifetimes.Lfts 10) (a : World.ArgsD answer-fn.signature κs) → answer-reads.Asked κs a
+  pub answer_lines : (κs : Lifetimes.Lfts 3) (a : World.ArgsD answer-fn.signature κs) → answer-reads.Asked κs a
 
 pub asks_nothing : AsksNothing
 asks_nothing = record { hold = λ κs a. tt; end_line = λ κs a. tt; answer_lines = λ κs a. tt }

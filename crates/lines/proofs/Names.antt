@@ -34,6 +34,16 @@ files_by Engagement x y day v powers e = true_false false e refl
 files_by RecordOf x y day v powers e = true_false false e refl
 files_by Unknown x y day v powers e = true_false false e refl
 
+-- a line that names no file does the same whatever file is given
+any_by : (reg : Register) (file other : File) (k : Kind) (x y : List ℕ) (day v : ℕ) (powers : List ℕ) → names_file k ≡ false →
+    line_step reg file (asked_of k x y day v powers) ≡ line_step reg other (asked_of k x y day v powers)
+unfolding line_step
+any_by reg file other (Calls call) x y day v powers e = refl
+any_by reg file other Files x y day v powers e = true_false true refl e
+any_by reg file other Engagement x y day v powers e = refl
+any_by reg file other RecordOf x y day v powers e = refl
+any_by reg file other Unknown x y day v powers e = refl
+
 module _ (line : List ℕ) {r : Line} (w : r ≡ line_read line) where
   pub says : asked line r ≡ line_of line
   says = ap (asked line) w ∙ asked_line line
@@ -64,6 +74,12 @@ module _ (line : List ℕ) {r : Line} (w : r ≡ line_read line) where
       let l : length (drop (r.first + 1) line) ≡ length line - (r.first + 1) = length-drop (r.first + 1) line in
       let n : suc (length line - suc (length (drop (r.first + 1) line))) ≡ r.first + 1 = rw l (omega (arith, (named e).0)) in
       sym (ap (name_from (length line)) (rest_read e) ∙ n)
+
+  -- what is told of a line that names none
+  pub none_told : (reg : Register) (file other : File) {x : Told} → names_file r.kind ≡ false →
+      x ≡ line_step reg file (asked line r) → x ≡ line_step reg other (line_of line)
+  unfolding asked
+  none_told reg file other e f = f ∙ any_by reg file other r.kind _ _ _ _ _ e ∙ ap (line_step reg other) says
 
   -- what is told of a line that names a file
   pub file_told : (reg : Register) (file : File) {x : Told} → names_file r.kind ≡ true →

@@ -1,6 +1,6 @@
 -- A walk over lines goes on from each line that is answered, and stops where a file, more input or more room is wanted.
-use Rattle.std.proofs.Common.{◌≡◌, ℕ, ◌+◌, ◌-◌, ◌<◌, ◌≤◌, Bool, true, false, eqb, List, [], ◌∷◌, length, take, drop, sym, refl, ap, ◌∙◌, subst, arith, length-drop, drop_of_length-le, length-take-le, drop-drop, ne_eqb, leb, leb-true, leb-false}
-use Rattle.lists.proofs.Tests.{by_test, true_false}
+use Rattle.std.proofs.Common.{◌≡◌, ℕ, ◌+◌, ◌-◌, ◌<◌, ◌≤◌, Bool, true, false, eqb, List, [], ◌∷◌, length, take, drop, sym, refl, ap, ap₂, ◌∙◌, subst, arith, length-drop, drop_of_length-le, length-take-le, drop-drop, ne_eqb, leb, leb-true, leb-false}
+use Rattle.lists.proofs.Tests.{by_test}
 use Rattle.notification.specs.Reading.{lines_in}
 use Rattle.std.specs.Prelude.{Option, Some, None}
 use Rattle.notification.specs.declared.Reading.{Reading}
@@ -8,68 +8,50 @@ use Rattle.refusals.specs.declared.Verdict.{Verdict}
 use Rattle.refusals.specs.declared.Verdict.TheVariants.{Pass, No}
 use Rattle.reader.specs.Walking.{LineEnd}
 use Rattle.reader.proofs.Ends.{lines_here, lines_over}
-use Rattle.ledger.specs.Asking.{ask_engagement}
 use Rattle.ledger.specs.declared.Entry.TheVariants.{SevenDays}
-use Rattle.answers.specs.Values.{said_engaged}
 use Rattle.answers.specs.declared.Said.{Said}
 use Rattle.register.specs.View.{Register, held}
 use Rattle.register.specs.Written.{does_reading}
 use Rattle.register.specs.Told.{Told, told, tells}
 use Rattle.script.specs.Lines.{Asked, calls, file_of, engagement, record_of, unknown, line_of}
-use Rattle.script.specs.Spans.{cut, first_text, second_text, asked, line_read}
+use Rattle.script.specs.Spans.{cut, first_text, second_text, asked, names_file, line_read}
 use Rattle.script.specs.Answers.{answer_put, answer_end}
-use Rattle.script.specs.declared.reading.Kind.TheVariants.{Engagement}
 use Rattle.script.specs.declared.reading.Line.{Line}
-use Rattle.session.specs.Lines.{File, only_asks, ask_step, line_step}
-use Rattle.session.proofs.Spans.{asks_only, asks_engagement, engagement_said}
+use Rattle.session.specs.Lines.{File, line_step}
+use Rattle.session.specs.Stores.{register_in}
+use Rattle.session.specs.declared.store.Store.{Store}
 use Rattle.lines.proofs.Fronts.{drop_take}
-use Rattle.lines.proofs.Names.{says, none_wanted}
+use Rattle.lines.proofs.Names.{given_none, file_told, none_told, no_file}
 use Rattle.lines.specs.Scripts.{Line as Done}
-use Rattle.lines.specs.Walking.{Walked, stands, has_room, next, name_from, name_at, wanted, file_in, stops, filed, says_read, tells_on, answered, walk, NamedIn, NamedIf, Progressed}
+use Rattle.lines.specs.Walking.{Walked, stands, has_room, next, wanted, file_in, stops, filed, says_read, tells_on, answered, walk, NamedIn, NamedIf, Progressed}
 use Rattle.lines.specs.declared.answering.Wants.{Wants}
 use Rattle.lines.specs.declared.answering.Wants.TheVariants as Want
 use Rattle.lines.specs.declared.answering.Wants.TheVariants.{Input, Room}
 
--- ---- lines that only ask
+-- ---- lines that are answered
 
--- such a line names no file
-asks_none : (n : ℕ) (a : Asked) → only_asks a ≡ true → name_from n a ≡ 0
-unfolding only_asks
-asks_none n (calls c) e = refl
-asks_none n (file_of submitter name) e = true_false true refl (sym e)
-asks_none n (engagement actor category day s) e = refl
-asks_none n (record_of asker id) e = refl
-asks_none n unknown e = refl
-
--- what a line that only asks tells, and that it names no file
-pub record Answers (r : Register) (line : List ℕ) (given : Option File) (said : Said) : Type 0 where
-  pub told : tells r said ≡ line_step r (file_in given) (line_of line)
+-- what is told of a line, and that no file is wanted for it
+pub record Answers (r : Register) (line : List ℕ) (given : Option File) (next : Register) (said : Said) : Type 0 where
+  pub told : tells next said ≡ line_step r (file_in given) (line_of line)
   pub unnamed : wanted given line ≡ 0
 
-pub ask_answers : (r : Register) (given : Option File) {line : List ℕ} {form : Line} {t : Bool} {said : Said} →
-    form ≡ line_read line → ((line : List ℕ) → t ≡ only_asks (asked line form)) → t ≡ true → said ≡ ask_step (held r) (asked line form) →
-    Answers r line given said
-unfolding name_at
-ask_answers r given {line} w e k f =
-    let asks : only_asks (line_of line) ≡ true = ap only_asks (sym (says line w)) ∙ sym (e line) ∙ k in
-    record {
-      told = ap (tells r) (f ∙ ap (ask_step (held r)) (says line w)) ∙ sym (asks_only r (file_in given) (line_of line) asks);
-      unnamed = none_wanted given line (asks_none (length line) (line_of line) asks);
-    }
+-- a line that was read, answered with a register's store
+module _ (line : List ℕ) {form : Line} (w : form ≡ line_read line) (r : Register) {store done : Store} {said answered : Said} (a : store ≡ done) (b : said ≡ answered) where
+  told_so : {x : Told} → tells (register_in done) answered ≡ x → tells (register_in store) said ≡ x
+  told_so e = ap₂ (λ (s : Store) (y : Said). tells (register_in s) y) a b ∙ e
 
-pub engagement_answers : (r : Register) (given : Option File) {line : List ℕ} {form : Line} {said : Said} →
-    form ≡ line_read line → form.kind ≡ Engagement →
-    said ≡ said_engaged (ask_engagement (held r) (first_text line form) (second_text line form) form.day form.number) →
-    Answers r line given said
-engagement_answers r given {line} {form} w e f =
-    ask_answers r given w (λ (any : List ℕ). asks_engagement any form e) refl (engagement_said line form (held r) e f)
+  pub filed_answers : {given : Option File} {file : File} → names_file form.kind ≡ true → given ≡ Some file →
+      tells (register_in done) answered ≡ line_step r file (file_of (first_text line form) (second_text line form)) →
+      Answers r line given (register_in store) said
+  filed_answers {given} {file} f g t =
+      record {
+        told = told_so (file_told line w r file f t) ∙ rw g refl;
+        unnamed = given_none given line g;
+      }
 
--- ---- lines that do something
-
--- what is told of a line by what was read of it is what is told of the line
-pub told_by : (r : Register) (file : File) (line : List ℕ) {form : Line} {x : Told} → form ≡ line_read line →
-    x ≡ line_step r file (asked line form) → x ≡ line_step r file (line_of line)
-told_by r file line w e = e ∙ ap (line_step r file) (says line w)
+  pub others_answer : {given : Option File} (file : File) → names_file form.kind ≡ false → tells (register_in done) answered ≡ line_step r file (asked line form) →
+      Answers r line given (register_in store) said
+  others_answer {given} file f t = record { told = told_so (none_told line w r file (file_in given) f t); unnamed = no_file line w given f }
 
 -- ---- a step of the walk
 
@@ -160,10 +142,6 @@ cut_rest s from n to =
     let e : to - from - n ≡ to - (from + n) = omega arith in
     drop_take n (to - from) (drop from s) ∙ rw (e, drop-drop n from s)
 
--- the file that is given
-pub same_file : {given : Option File} {file : File} → given ≡ Some file → file ≡ file_in given
-same_file e = rw e refl
-
 -- ---- how far the walk is
 
 -- what the lines from here on come to is what all lines come to; the places are in their bounds, and the output is as long as it was
@@ -182,7 +160,7 @@ module _ {input : List ℕ} {given₀ : Option File} {w₀ : Walked} {given : Op
   abbrev Stopped : Wants → Type 0
   Stopped want =
       (stops w want ≡ walk given₀ w₀ (lines_in (drop w₀.at input)))
-      × Progressed input w₀.at w₀.output w₀.out (record { head = w.register.head; number = w.number; at = w.at; out = w.out; wants = want })
+      × Progressed input w₀.at w₀.output w₀.out (record { number = w.number; at = w.at; out = w.out; wants = want })
 
   stopped : (want : Wants) → walk given w (lines_in (drop w.at input)) ≡ stops w want → NamedIf input w.at want → Stopped want
   stopped want k n = (sym (g.on ∙ k), record { reached = g.reached; room = g.room; named = n })
@@ -199,7 +177,7 @@ module _ {input : List ℕ} {given₀ : Option File} {w₀ : Walked} {given : Op
       (λ t. past_end (omega (arith, leb-false w.at (length input) t)))
 
   module _ {stop : ℕ} (e : LineEnd input w.at stop) (inside : stop < length input) where
-    abbrev its_line : List ℕ
+    abbrev pub its_line : List ℕ
     its_line = cut input w.at stop
 
     module _ {t : Bool} (room : t ≡ has_room w.output w.out) where
@@ -221,15 +199,14 @@ module _ {input : List ℕ} {given₀ : Option File} {w₀ : Walked} {given : Op
               line = n.files ∙ ap (file_of n.submitter) (cut_rest input w.at name stop);
             })
 
-        pub goes_on : {file : File} {s : Register} {said : Said} {n out : ℕ} {output : List ℕ} → file ≡ file_in given → tells s said ≡ line_step w.register file (line_of its_line) →
-            wanted given its_line ≡ 0 → n ≡ next w.number →
+        pub goes_on : {s : Register} {said : Said} {n out : ℕ} {output : List ℕ} → Answers w.register its_line given s said → n ≡ next w.number →
             (output ≡ answer_put w.output w.out n said) × (out ≡ answer_end w.output w.out n said) × (out ≤ w.out + 64) → length output ≡ length w.output →
             Going input given₀ w₀ None (stands s n (stop + 1) output out Input)
-        goes_on {file} {s} {said} {n} {out} {output} same a b c d k =
+        goes_on {s} {said} {n} {out} {output} a c d k =
             let h = leb-true (w.out + 64) (length w.output) (sym room ∙ f) in
             let j = d.2 in
             record {
-              on = g.on ∙ here_on given w input stop e g.even inside (sym room ∙ f) b s said n out output (a ∙ ap (λ (f : File). line_step w.register f (line_of its_line)) same) c d.0 d.1;
+              on = g.on ∙ here_on given w input stop e g.even inside (sym room ∙ f) a.unnamed s said n out output a.told c d.0 d.1;
               reached = λ q. omega (arith, inside);
               room = λ q. omega (arith, h, j, g.as_long);
               as_long = k ∙ g.as_long;

@@ -20,6 +20,7 @@ use Rattle.script.specs.Lines.{Asked, calls, file_of, engagement, record_of, unk
 use Rattle.script.specs.Spans.{cut}
 use Rattle.script.specs.Answers.{answer_end}
 use Rattle.session.specs.Lines.{File, line_step}
+use Rattle.session.specs.declared.store.Store.{Store}
 use Rattle.lines.specs.Walking.{Walked, stands, has_room, next, wanted, file_in, says_read, stops, answered, walk, NamedIf}
 use Rattle.lines.specs.declared.answering.Wants.{Wants}
 use Rattle.lines.specs.declared.answering.Wants.TheVariants as Want
@@ -179,6 +180,21 @@ module _ (input : List ℕ) where
 
 -- ---- so there is what `answer_lines` ensures
 
+-- a register as the store that it is
+abbrev store_of : Register → Store
+store_of r =
+    record {
+      head = r.head;
+      statuses = r.columns.statuses;
+      ids = r.columns.ids;
+      keys = r.columns.keys;
+      marks = r.columns.marks;
+      rows = r.columns.rows;
+      numbers = r.loads.keys;
+      approved = r.loads.approved;
+      loads = r.loads.rows;
+    }
+
 -- the walk from a standing, with the ledger that its register then holds
 abbrev pub walked_on : Option File → List ℕ → Walked → Walked
 walked_on given input w =
@@ -194,10 +210,9 @@ module _ (given : Option File) (input : List ℕ) (r : Register) (number at : �
   walk_exists g =
       let v = walk given before (lines_in (drop at input)) in
       let x = v.register in
-      goes ([], ([], ([], ([], ([], ([], ([], ([], ([], ([], tt))))))))))
-      (r.head, (ref_mut r.columns.statuses, (ref_mut r.columns.ids, (ref_mut r.columns.keys, (ref_mut r.columns.marks, (ref_mut r.columns.rows, (ref_mut r.loads.keys, (ref_mut r.loads.approved, (ref_mut r.loads.rows, (number, (ref input, (at, (ref_mut output, (out, (given, tt)))))))))))))))
-      (record { head = x.head; number = v.number; at = v.at; out = v.out; wants = v.wants })
-      (r.head, (ref_mut x.columns.statuses, (ref_mut x.columns.ids, (ref_mut x.columns.keys, (ref_mut x.columns.marks, (ref_mut x.columns.rows, (ref_mut x.loads.keys, (ref_mut x.loads.approved, (ref_mut x.loads.rows, (number, (ref input, (at, (ref_mut v.output, (out, (given, tt)))))))))))))))
+      goes ([], ([], ([], tt))) (ref_mut (store_of r), (number, (ref input, (at, (ref_mut output, (out, (given, tt)))))))
+      (record { number = v.number; at = v.at; out = v.out; wants = v.wants })
+      (ref_mut (store_of x), (number, (ref input, (at, (ref_mut v.output, (out, (given, tt)))))))
       (λ t. (
         ap (λ l. record { register = x; ledger = l; number = v.number; at = v.at; output = v.output; out = v.out; wants = v.wants }) (sym g.good.holds),
         record { reached = λ h. g.reached; room = λ h. g.room; named = g.named },

@@ -1,9 +1,8 @@
 -- What a line does by what was read of it.
 use mathlib.Core.Path.{◌≡◌, refl, sym, ap, ap₂, ◌∙◌}
-use mathlib.Core.Bool.{true, false}
+use mathlib.Core.Bool.{true}
 use Rattle.std.specs.Prelude.{Some, None}
 use mathlib.Core.List.{List}
-use mathlib.Core.Logic.{◌⊎◌, inl, inr}
 use Prim.Native.Nat.{ℕ, ◌≤◌}
 use lib.ListN.{length, take}
 use lib.Seq.{length-take-le}
@@ -17,7 +16,7 @@ use Rattle.ledger.specs.declared.Shown.{Shown}
 use Rattle.answers.specs.Values.{said_engaged, said_shown, said_refused}
 use Rattle.answers.specs.declared.Said.{Said}
 use Rattle.register.specs.View.{Register, held}
-use Rattle.register.specs.Written.{does, does_reading}
+use Rattle.register.specs.Written.{Done, seen, does, does_reading}
 use Rattle.register.specs.Told.{told, tells}
 use Rattle.script.specs.Lines.{Asked, calls, file_of, engagement, record_of, unknown}
 use Rattle.script.specs.Spans.{first_text, second_text, powers_of, call_of, asked_of, asked}
@@ -25,6 +24,10 @@ use Rattle.script.specs.declared.reading.CallKind.{CallKind}
 use Rattle.script.specs.declared.reading.Kind.{Kind}
 use Rattle.script.specs.declared.reading.Kind.TheVariants.{Calls, Files, Engagement, RecordOf, Unknown}
 use Rattle.script.specs.declared.reading.Line.{Line}
+use Rattle.answers.specs.Values.{said_of}
+use Rattle.register.specs.declared.Reply.{Reply}
+use Rattle.session.specs.declared.store.Store.{Store}
+use Rattle.session.specs.Stores.{register_in}
 use Rattle.session.specs.Lines.{File, no_call, only_asks, ask_step, line_step}
 
 -- A LINE THAT ONLY ASKS is answered as the definition of a line's step has it
@@ -55,33 +58,10 @@ module _ (x y : List ℕ) (day n : ℕ) (powers : List ℕ) where
   asks_of RecordOf e f = refl
   asks_of Unknown e f = refl
 
-  does_of : (k : Kind) → (k ≡ Engagement → ⊥) → (k ≡ RecordOf → ⊥) → (k ≡ Unknown → ⊥) → false ≡ only_asks (asked_of k x y day n powers)
-  unfolding only_asks
-  does_of (Calls call) e f g = refl
-  does_of Files e f g = refl
-  does_of Engagement e f g = absurd (e refl)
-  does_of RecordOf e f g = absurd (f refl)
-  does_of Unknown e f g = absurd (g refl)
-
 module _ (line : List ℕ) (r : Line) where
   asked_by : {k : Kind} → r.kind ≡ k → asked line r ≡ asked_of k (first_text line r) (second_text line r) r.day r.number (powers_of line r)
   unfolding asked
   asked_by e = ap (λ (k : Kind). asked_of k (first_text line r) (second_text line r) r.day r.number (powers_of line r)) e
-
-  pub asks_engagement : r.kind ≡ Engagement → true ≡ only_asks (asked line r)
-  unfolding only_asks
-  asks_engagement e = ap only_asks (sym (asked_by e))
-
-  -- whether it only asks
-  pub asks_some : (r.kind ≡ Engagement) ⊎ ((r.kind ≡ RecordOf) ⊎ (r.kind ≡ Unknown)) → true ≡ only_asks (asked line r)
-  unfolding only_asks
-  asks_some (inl e) = asks_engagement e
-  asks_some (inr (inl e)) = ap only_asks (sym (asked_by e))
-  asks_some (inr (inr e)) = ap only_asks (sym (asked_by e))
-
-  pub asks_not : (r.kind ≡ Engagement → ⊥) → (r.kind ≡ RecordOf → ⊥) → (r.kind ≡ Unknown → ⊥) → false ≡ only_asks (asked line r)
-  unfolding asked
-  asks_not e f g = does_of (first_text line r) (second_text line r) r.day r.number (powers_of line r) r.kind e f g
 
   -- what a line that only asks says
   module _ (l : Ledger) {said : Said} where
@@ -138,3 +118,9 @@ module _ (reg : Register) where
       told (does_reading reg SevenDays x reading) ≡ line_step reg (Some reading) (file_of x' y)
   unfolding line_step
   one_filed reading y f = rw f refl
+
+-- ---- a call leaves a head, and says something
+
+pub settled : {n next : Store} {said : Said} {d : Done} (y : Reply) → (next ≡ n) × (said ≡ said_of y.answer) → seen (register_in n) y.answer ≡ d →
+    tells (register_in next) said ≡ told d
+settled y e f = ap₂ (λ (n : Store) (a : Said). tells (register_in n) a) e.0 e.1 ∙ ap told f
