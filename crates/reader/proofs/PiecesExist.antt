@@ -12,10 +12,12 @@ use lib.Seq.{take-take, take-append_seam}
 use Rattle.lists.specs.Searches.{byte_from}
 use Rattle.lists.proofs.Tests.{by_test}
 use Rattle.calendar.proofs.StepCounts.{steps_small}
+use Rattle.std.specs.Prelude.{Result}
+use Rattle.refusals.specs.declared.Refusal.{Refusal}
 use Rattle.notification.specs.Forms.{filled, places}
 use Rattle.notification.specs.Writing.{header_of}
 use Rattle.notification.specs.Reading.{name_key, is_name, lines_in, body_most}
-use Rattle.notification.specs.declared.Reading.{Reading}
+use Rattle.notification.specs.declared.Notification.{Notification}
 use Rattle.reader.specs.Walking.{line_power}
 use Rattle.reader.specs.Folding.{
   Taken,
@@ -177,7 +179,7 @@ run_on name qs (p ∷ ps) x f d =
     rw append_assoc at (run_on name (qs ++ p ∷ []) ps y g (feeds ([], tt) (keeping x, (ref p, tt)) (keeping y) (keeping x, (ref p, tt)) d (λ t. e)))
 
 -- WHATEVER THE NAME AND THE PIECES, THERE IS A RUN, and its end gives a result
-pub every_cut_runs : (name : List ℕ) (ps : List (List ℕ)) → (d : Run name ps) × ((r : Reading) × Ends d.reader r)
+pub every_cut_runs : (name : List ℕ) (ps : List (List ℕ)) → (d : Run name ps) × ((r : Result Notification Refusal) × Ends d.reader r)
 every_cut_runs name ps =
     let x = begun name in
     let f = begun_fits name in

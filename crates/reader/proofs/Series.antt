@@ -12,17 +12,16 @@ use borrow.Author.Tests.{eqb-true, eqb-false, eq-eqb, ne_eqb, lt-leb}
 use Rattle.std.specs.List.{list_all}
 use Rattle.lists.specs.Searches.{every}
 use Rattle.lists.proofs.Tests.{by_test}
-use Rattle.refusals.specs.Tests.{input, decide}
+use Rattle.refusals.specs.Tests.{input, decide, Verdict, pass}
 use Rattle.refusals.specs.declared.Refusal.{Refusal}
 use Rattle.refusals.specs.declared.Refusal.TheVariants.{Input}
 use Rattle.refusals.specs.declared.InputRefusal.TheVariants.{Lines, Labels, Power, Zeros}
-use Rattle.refusals.specs.declared.Verdict.{Verdict}
-use Rattle.refusals.specs.declared.Verdict.TheVariants.{Pass, No}
+use Rattle.std.specs.Prelude.{Result, Ok, Err}
 use Rattle.refusals.proofs.Tests.{refused_pass}
 use Rattle.notification.specs.Forms.{places, in_places, all_zero}
-use Rattle.notification.specs.Reading.{accepted, refused}
+use Rattle.notification.specs.Reading.{}
 use Rattle.notification.specs.declared.Key.{Key}
-use Rattle.notification.specs.declared.Reading.{Reading}
+use Rattle.notification.specs.declared.Notification.{Notification}
 use Rattle.notification.proofs.Places.{places_filled, places_every, places_zero}
 use Rattle.reader.specs.Folding.{Taken, one_more, counted, labels_fault, power_fault, faulted, judged, is_over, step_taken, take_all, no_steps}
 use Rattle.reader.specs.Folding.{fault_of, outcome_of, judgement}
@@ -33,20 +32,20 @@ use Rattle.reader.specs.declared.tally.LinePower.TheVariants.{Gives, NoLabels, N
 -- ---- what the steps come to
 
 module _ (steps : ℕ) (t : Tally) (ps : List ℕ) where
-  pub outcome_lines : (t.lines ≡ steps → ⊥) → No (input Lines) ≡ outcome_of steps t ps
+  pub outcome_lines : (t.lines ≡ steps → ⊥) → Err (input Lines) ≡ outcome_of steps t ps
   unfolding outcome_of
   outcome_lines h = rw (ne_eqb t.lines steps h)
 
   module _ (h : t.lines ≡ steps) where
-    pub outcome_fault : (r : Refusal) → fault_of t ≡ No r → No r ≡ outcome_of steps t ps
+    pub outcome_fault : (r : Refusal) → fault_of t ≡ Err r → Err r ≡ outcome_of steps t ps
     unfolding outcome_of
     outcome_fault r v = rw (eq-eqb t.lines steps h, v)
 
-    pub outcome_passed : fault_of t ≡ Pass → all_zero ps ≡ false → Pass ≡ outcome_of steps t ps
+    pub outcome_passed : fault_of t ≡ pass → all_zero ps ≡ false → pass ≡ outcome_of steps t ps
     unfolding outcome_of
     outcome_passed v a = rw (eq-eqb t.lines steps h, v, a)
 
-    pub outcome_zeros : fault_of t ≡ Pass → all_zero ps ≡ true → No (input Zeros) ≡ outcome_of steps t ps
+    pub outcome_zeros : fault_of t ≡ pass → all_zero ps ≡ true → Err (input Zeros) ≡ outcome_of steps t ps
     unfolding outcome_of
     outcome_zeros v a = rw (eq-eqb t.lines steps h, v, a)
 
@@ -114,9 +113,9 @@ module _ {A : Type 0} (say : ℕ → A → LinePower) (first steps : ℕ) where
 
   -- what step k is refused by, and what its power is
   abbrev pub refused_by : ℕ → LinePower → Verdict
-  refused_by k (Gives p) = Pass
-  refused_by k NoLabels = No (Input Labels (k + first))
-  refused_by k NoPower = No (Input Power (k + first))
+  refused_by k (Gives p) = pass
+  refused_by k NoLabels = Err (Input Labels (k + first))
+  refused_by k NoPower = Err (Input Power (k + first))
 
   abbrev pub power_said : LinePower → ℕ
   power_said (Gives p) = p
@@ -124,8 +123,8 @@ module _ {A : Type 0} (say : ℕ → A → LinePower) (first steps : ℕ) where
   power_said NoPower = 0
 
   unfoldable pub verdict_from : ℕ → List A → Verdict
-  verdict_from k [] = Pass
-  verdict_from k (a ∷ xs) = decide (refused_by k (say k a)) (verdict_from (suc k) xs) No
+  verdict_from k [] = pass
+  verdict_from k (a ∷ xs) = decide (refused_by k (say k a)) (verdict_from (suc k) xs) Err
 
   unfoldable pub powers_from : ℕ → List A → List ℕ
   powers_from k [] = []
@@ -147,10 +146,10 @@ module _ {A : Type 0} (say : ℕ → A → LinePower) (first steps : ℕ) where
   -- what is kept after steps that are no more than those left, after no fault
   record Kept (k : ℕ) (x : Taken) (xs : List A) : Type 0 where
     its_fault : fault_of (take x xs).tally ≡ verdict_from k xs
-    its_powers : verdict_from k xs ≡ Pass → (take x xs).powers ≡ sets x.powers k (powers_from k xs)
+    its_powers : verdict_from k xs ≡ pass → (take x xs).powers ≡ sets x.powers k (powers_from k xs)
 
   refused_kept : (k : ℕ) (x y : Taken) (r : Refusal) (a : A) (xs : List A) → next x a ≡ y
-      → eqb y.tally.fault 0 ≡ false → fault_of y.tally ≡ No r → verdict_from k (a ∷ xs) ≡ No r → Kept k x (a ∷ xs)
+      → eqb y.tally.fault 0 ≡ false → fault_of y.tally ≡ Err r → verdict_from k (a ∷ xs) ≡ Err r → Kept k x (a ∷ xs)
   refused_kept k x y r a xs e f v w =
       record {
         its_fault = ap (λ (z : Taken). fault_of z.tally) (takes_cons x y a xs e) ∙ (fault_stays y xs f ∙ (v ∙ sym w));
@@ -202,12 +201,12 @@ module _ {A : Type 0} (say : ℕ → A → LinePower) (first steps : ℕ) where
   -- ---- ALL STEPS
 
   -- 5 to 8 of steps: their number, the first fault, every power 0
-  abbrev pub told : Key → List A → Reading
+  abbrev pub told : Key → List A → Result Notification Refusal
   told key xs =
-      cond (not (eqb (length xs) steps)) (refused (input Lines))
+      cond (not (eqb (length xs) steps)) (Err (input Lines))
       (decide (verdict_from 0 xs)
-      (cond (all_zero (powers_from 0 xs)) (refused (input Zeros)) (accepted (record { key = key; steps = steps; powers = in_places (powers_from 0 xs) })))
-      refused)
+      (cond (all_zero (powers_from 0 xs)) (Err (input Zeros)) (Ok (record { key = key; steps = steps; powers = in_places (powers_from 0 xs) })))
+      Err)
 
   module _ (key : Key) (few : steps ≤ places) (xs : List A) where
     abbrev start : Taken
@@ -233,9 +232,9 @@ module _ {A : Type 0} (say : ℕ → A → LinePower) (first steps : ℕ) where
 
       by_verdict : (v : Verdict) → verdict_from 0 xs ≡ v → judgement key steps end.tally end.powers ≡ told key xs
       unfolding judgement
-      by_verdict (No r) e =
+      by_verdict (Err r) e =
           rw (← outcome_fault steps end.tally end.powers count_same r (all_kept.its_fault ∙ e), eq-eqb (length xs) steps n, e)
-      by_verdict Pass e =
+      by_verdict (Ok u) e =
           let v = all_kept.its_fault ∙ e in
           let few-powers : length (powers_from 0 xs) ≤ places = omega (arith, powers_length 0 xs) in
           let p : end.powers ≡ in_places (powers_from 0 xs) = all_kept.its_powers e ∙ sets_places (powers_from 0 xs) few-powers in

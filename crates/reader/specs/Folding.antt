@@ -1,14 +1,13 @@
 -- What is kept from step to step, however the steps are told, and from line to line of a file.
-use Rattle.std.specs.Prelude.{◌≡◌, Bool, cond, not, ◌&&◌, ◌||◌, List, [], ◌∷◌, ℕ, ◌+◌, ◌≤◌, min, leb, eqb, length, drop, set, replicate}
-use Rattle.refusals.specs.Tests.{input, decide}
+use Rattle.std.specs.Prelude.{◌≡◌, Bool, cond, not, ◌&&◌, ◌||◌, List, [], ◌∷◌, ℕ, ◌+◌, ◌≤◌, min, leb, eqb, length, drop, set, replicate, Result, Ok, Err}
+use Rattle.refusals.specs.Tests.{Verdict, pass, input, decide}
+use Rattle.refusals.specs.declared.Refusal.{Refusal}
 use Rattle.refusals.specs.declared.Refusal.TheVariants.{Input}
 use Rattle.refusals.specs.declared.InputRefusal.TheVariants.{Header, Differs, Lines, Labels, Power, Zeros}
-use Rattle.refusals.specs.declared.Verdict.{Verdict}
-use Rattle.refusals.specs.declared.Verdict.TheVariants.{Pass, No}
 use Rattle.notification.specs.Forms.{places, all_zero}
-use Rattle.notification.specs.Reading.{is_header, lines_in, accepted, refused}
+use Rattle.notification.specs.Reading.{is_header, lines_in}
 use Rattle.notification.specs.declared.Key.{Key}
-use Rattle.notification.specs.declared.Reading.{Reading}
+use Rattle.notification.specs.declared.Notification.{Notification}
 use Rattle.reader.specs.declared.lines.FileTally.{FileTally}
 use Rattle.reader.specs.declared.tally.LinePower.{LinePower}
 use Rattle.reader.specs.declared.tally.LinePower.TheVariants.{Gives, NoLabels, NoPower}
@@ -77,17 +76,17 @@ no_steps = record { lines = 0; fault = 0; place = 0 }
 
 -- what the first fault is refused by
 unfoldable pub fault_of : Tally → Verdict
-fault_of t = cond (eqb t.fault 0) Pass (cond (eqb t.fault labels_fault) (No (Input Labels t.place)) (No (Input Power t.place)))
+fault_of t = cond (eqb t.fault 0) pass (cond (eqb t.fault labels_fault) (Err (Input Labels t.place)) (Err (Input Power t.place)))
 
 -- what the steps come to: their number, the first fault, whether a power is not 0
 unfoldable pub outcome_of : ℕ → Tally → List ℕ → Verdict
 outcome_of steps t powers =
-    cond (not (eqb t.lines steps)) (No (input Lines))
-    (decide (fault_of t) (cond (all_zero powers) (No (input Zeros)) Pass) No)
+    cond (not (eqb t.lines steps)) (Err (input Lines))
+    (decide (fault_of t) (cond (all_zero powers) (Err (input Zeros)) pass) Err)
 
 -- the notification that the steps come to, or their refusal
-unfoldable pub judgement : Key → ℕ → Tally → List ℕ → Reading
-judgement key steps t powers = decide (outcome_of steps t powers) (accepted (record { key = key; steps = steps; powers = powers })) refused
+unfoldable pub judgement : Key → ℕ → Tally → List ℕ → Result Notification Refusal
+judgement key steps t powers = decide (outcome_of steps t powers) (Ok (record { key = key; steps = steps; powers = powers })) Err
 
 -- WHAT IS KEPT FROM LINE TO LINE OF A FILE
 
@@ -138,11 +137,11 @@ no_lines = record { header = 0; steps = record { tally = no_steps; powers = repl
 
 -- what the header is refused by
 unfoldable pub header_said : ℕ → Verdict
-header_said found = cond (eqb found 3) (No (Input Header 1)) (cond (eqb found 4) (No (Input Differs 1)) Pass)
+header_said found = cond (eqb found 3) (Err (Input Header 1)) (cond (eqb found 4) (Err (Input Differs 1)) pass)
 
 -- what a file's lines come to: the header's refusal, else what the steps come to
-unfoldable pub concluded : Key → ℕ → FileTaken → Reading
-concluded key steps x = decide (header_said x.header) (judgement key steps x.steps.tally x.steps.powers) refused
+unfoldable pub concluded : Key → ℕ → FileTaken → Result Notification Refusal
+concluded key steps x = decide (header_said x.header) (judgement key steps x.steps.tally x.steps.powers) Err
 
 -- LINES TAKEN FROM A PLACE ON
 

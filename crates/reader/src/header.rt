@@ -6,11 +6,12 @@ ghost use Rattle.reader.specs.Folding.{other_header};
 
 use crate::keys::is_header;
 use crate::marks::four;
+use refusals::InputRefusal;
 
 // What is found of a line 1 that isn't the name's header, the number of its refusal: it is no header, or another's.
-pub(crate) const NO_HEADER: u32 = 3;
+pub(crate) const NO_HEADER: u32 = InputRefusal::Header as u32;
 
-pub(crate) const OTHER_HEADER: u32 = 4;
+pub(crate) const OTHER_HEADER: u32 = InputRefusal::Differs as u32;
 
 // Whether two texts are the same.
 pub fn alike(a: &[u8], b: &[u8]) -> bool

@@ -19,13 +19,14 @@ ghost use Rattle.reader.specs.InHand.{
 
 use crate::keys::name_key;
 use crate::lines::{FileTally, take_lines};
-use crate::reading::{conclude, refuse};
+use crate::reading::conclude;
 use crate::tally::Tally;
 use calendar::steps_of;
 use lists::bytes::byte_from;
 use lists::numbers::{least, least_length};
-use notification::forms::{six, sixteen};
-use notification::{Key, Reading};
+use notification::forms::in_bytes;
+use notification::{Key, Notification};
+use refusals::trying::refuse_if;
 use refusals::{InputRefusal, Refusal};
 
 // The most bytes that a body has.
@@ -165,9 +166,9 @@ fn key_of(header: &[u8], day: u32) -> Key
 {
     let n = header.len();
     Key {
-        ceder: sixteen(&header[0..16]),
-        acquirer: sixteen(&header[17..33]),
-        category: six(&header[43..n - 2]),
+        ceder: in_bytes(&header[0..16]),
+        acquirer: in_bytes(&header[17..33]),
+        category: in_bytes(&header[43..n - 2]),
         day,
     }
 }
@@ -177,12 +178,10 @@ impl FileReader {
     pub fn begin(name: &[u8]) -> FileReader
         ensures { in_hand result ≡ begun name.now }
     {
-        let read = name_key(name);
-        if !read.good {
-            return fresh([0; 51], 0, 0);
+        match name_key(name) {
+            Some(key) => fresh(header_of(name), name.len() as u32 - 6, key.day),
+            None => fresh([0; 51], 0, 0),
         }
-        let key = read.key;
-        fresh(header_of(name), name.len() as u32 - 6, key.day)
     }
 
     // The lines of a piece from a place on, where a line begins, after what the lines before it have shown.
@@ -272,15 +271,12 @@ impl FileReader {
     }
 
     // The end: the notification, or the first refusal of 1 to 8.
-    pub fn end(self) -> Reading
+    pub fn end(self) -> Result<Notification, Refusal>
         ensures { result ≡ ended (in_hand self) }
     {
-        if self.named < SHORTEST_HEADER {
-            return refuse(Refusal::Input(InputRefusal::Name, 0));
-        }
-        if (self.length < 1) | (MOST_BYTES < self.length) | (self.held != 0) {
-            return refuse(Refusal::Input(InputRefusal::Body, 0));
-        }
+        refuse_if(self.named < SHORTEST_HEADER, InputRefusal::Name)?;
+        let whole = (1 <= self.length) & (self.length <= MOST_BYTES) & (self.held == 0);
+        refuse_if(!whole, InputRefusal::Body)?;
         let header = self.header;
         let n = least(self.named, LONGEST_HEADER) as usize;
         let key = key_of(&header[..n], self.day);

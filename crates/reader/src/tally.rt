@@ -4,15 +4,18 @@ ghost use Rattle.std.specs.Prelude.{◌≡◌, ◌+◌, ◌<◌, ◌≤◌, min}
 ghost use Rattle.notification.specs.Forms.{places};
 ghost use Rattle.reader.specs.Folding.{counted, faulted, is_over, judged, fault_of};
 
-use refusals::{InputRefusal, Refusal, Verdict};
+use refusals::{InputRefusal, Refusal};
 
 // More steps than any day has are counted as one more than that.
 const MOST_LINES: u32 = 51;
 
-// The fault of a step whose labels are wrong, and of one whose power is: the number of the refusal. 0 is no fault.
-const LABELS: u32 = 6;
+// The fault of a step whose labels are wrong, and of one whose power is: the number of the refusal. 0 is no fault. Numbers
+// and no enum: a tally lies in the file reader that C holds, so that any number may stand there.
+const NO_FAULT: u32 = 0;
 
-const POWER: u32 = 7;
+const LABELS: u32 = InputRefusal::Labels as u32;
+
+const POWER: u32 = InputRefusal::Power as u32;
 
 // What the steps so far have shown: how many there were, the first fault, and its place.
 #[repr(C)]
@@ -67,7 +70,7 @@ fn fault(t: Tally, number: u32, place: u32) -> Tally
 pub fn is_over(t: Tally, steps: u32) -> bool
     ensures { result ≡ is_over steps t }
 {
-    (t.fault != 0) | (steps <= t.lines)
+    (t.fault != NO_FAULT) | (steps <= t.lines)
 }
 
 // The next step of the day, by what is said of it: its power in its place, or the first fault. The place of the first
@@ -89,14 +92,13 @@ pub fn note(t: Tally, first: u32, said: LinePower, powers: &mut [u16; 50]) -> Ta
 }
 
 // What the first fault is refused by.
-pub(crate) fn fault_of(t: Tally) -> Verdict
+#[tactic(auto, unfolding(crate::specs::Folding::fault_of))]
+pub(crate) fn fault_of(t: Tally) -> Result<(), Refusal>
     ensures { result ≡ fault_of t }
 {
-    if t.fault == 0 {
-        return Verdict::Pass;
+    match t.fault {
+        NO_FAULT => Ok(()),
+        LABELS => Err(Refusal::Input(InputRefusal::Labels, t.place)),
+        _ => Err(Refusal::Input(InputRefusal::Power, t.place)),
     }
-    if t.fault == LABELS {
-        return Verdict::No(Refusal::Input(InputRefusal::Labels, t.place));
-    }
-    Verdict::No(Refusal::Input(InputRefusal::Power, t.place))
 }
