@@ -2,7 +2,7 @@
 use mathlib.Core.Path.{refl, sym, ◌∙◌}
 use native.Mathlib.Omega.{arith}
 use Rattle.script.proofs.Letters.{read_letter, unknown_read, line_long, line_short, line_unparted, line_letter, no_letter_lem, letter_t, letter_a, letter_c, letter_l, letter_f, letter_e, letter_r}
-use Rattle.script.proofs.reading.read_line.Goals as goal
+use Rattle.script.proofs.reading.known.Goals as goal
 
 pub returns-then-n-gt512 : goal.returns-then-n-gt512
 returns-then-n-gt512 c = unknown_read _ (line_long _ c.if-n-gt512.true)
