@@ -22,6 +22,8 @@ use Rattle.ledger.proofs.Passed.{FilingOk, filing_ok}
 use Rattle.ledger.proofs.Steps.{Kept, note_kept, step_kept, step_file}
 use Rattle.answers.specs.Values.{no_letter, said_of, said_engaged, said_shown}
 use Rattle.script.specs.Lines.{Asked, calls, file_of, engagement, record_of, unknown}
+use Rattle.std.specs.Prelude.{Some, None}
+use Rattle.session.specs.Lines.{File}
 use Rattle.lines.specs.Walking.{step_reading, says_read}
 use Rattle.lines.proofs.AnswersFit.{Short, ok_none, ok_one, ok_filed, ok_shown, no_short, refusal_short}
 
@@ -130,12 +132,12 @@ shown_short l asker id h =
     (λ e. ok_shown _ _ _ (soon_at l.records h (record_at l.records id))) (λ r e. refusal_short r)
 
 -- A LINE leaves such a ledger, and says something short
-pub early_line : (l : Ledger) (readable : Bool) (x : Reading) (a : Asked) → Early l →
-    Early (says_read l readable x a).ledger × Short (says_read l readable x a).said
+pub early_line : (l : Ledger) (file : File) (a : Asked) → Early l →
+    Early (says_read l file a).ledger × Short (says_read l file a).said
 unfolding says_read
-early_line l readable x (calls c) h = (early_step l c h, step_short l c)
-early_line l true x (file_of submitter name) h = (early_reading l submitter x h, reading_short l SevenDays submitter x)
-early_line l false x (file_of submitter name) h = (h, no_short 11 0 (omega arith))
-early_line l readable x (engagement actor category day s) h = (h, engaged_short l actor category day s)
-early_line l readable x (record_of asker id) h = (h, shown_short l asker id h)
-early_line l readable x unknown h = (h, no_short 11 0 (omega arith))
+early_line l file (calls c) h = (early_step l c h, step_short l c)
+early_line l (Some x) (file_of submitter name) h = (early_reading l submitter x h, reading_short l SevenDays submitter x)
+early_line l None (file_of submitter name) h = (h, no_short 11 0 (omega arith))
+early_line l file (engagement actor category day s) h = (h, engaged_short l actor category day s)
+early_line l file (record_of asker id) h = (h, shown_short l asker id h)
+early_line l file unknown h = (h, no_short 11 0 (omega arith))

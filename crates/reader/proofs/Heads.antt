@@ -21,7 +21,7 @@ use Rattle.reader.specs.declared.lines.FileTally.{FileTally}
 use Rattle.reader.specs.declared.tally.Tally.{Tally}
 use Rattle.reader.proofs.Starts.{starts_long}
 use Rattle.reader.proofs.Ends.{lines_here}
-use Rattle.reader.proofs.SameTexts.{and_assoc}
+use Rattle.notification.proofs.Tested.{and_assoc}
 use Rattle.reader.proofs.Marking.{peel}
 
 -- ---- bytes as one number

@@ -6,26 +6,18 @@ ghost use Rattle.reader.specs.Folding.{other_header};
 
 use crate::keys::is_header;
 use crate::marks::four;
+use refusals::InputRefusal;
 
 // What is found of a line 1 that isn't the name's header, the number of its refusal: it is no header, or another's.
-pub(crate) const NO_HEADER: u32 = 3;
+pub(crate) const NO_HEADER: u32 = InputRefusal::Header as u32;
 
-pub(crate) const OTHER_HEADER: u32 = 4;
+pub(crate) const OTHER_HEADER: u32 = InputRefusal::Differs as u32;
 
-// Whether two texts are the same. Each byte is looked at, so that many are compared at once.
+// Whether two texts are the same.
 pub fn alike(a: &[u8], b: &[u8]) -> bool
     ensures { result ≡ same a.now b.now }
 {
-    if a.len() != b.len() {
-        return false;
-    }
-    let mut good = true;
-    let mut i: usize = 0;
-    while i < a.len() {
-        good = good & (a[i] == b[i]);
-        i += 1;
-    }
-    good
+    a == b
 }
 
 // Eight bytes as a number.
