@@ -7,8 +7,7 @@ use Rattle.lists.specs.Sums.{sum_to}
 use Rattle.lists.proofs.Tests.{by_test, true_false}
 use Rattle.tables.specs.Tables.{Columns}
 use Rattle.tables.specs.Passing.{load_row, in_market, is_under, PlacesOf}
-use Rattle.tables.specs.declared.loads.Found.{Found}
-use Rattle.tables.specs.declared.loads.Found.TheVariants.{At, Nothing}
+use Rattle.std.specs.Prelude.{Option, Some, None}
 use Rattle.tables.proofs.Listing.{through, listed_skip}
 use Rattle.judging.specs.Nets.{base, Between, Based, Moved, Applied, spanned, concerns, gifts, gains, Netting}
 
@@ -168,8 +167,8 @@ listed_through keys own i k count places h f l =
 
 -- ---- the nets that are started with: the powers of a load that was found, or none
 
-module _ (rows : List (List ℕ)) (at : Found) (net : List ℕ) where
-  pub based_at : (i : ℕ) → at ≡ At i → i < 64 → Based (get_or rows i []) net → Based (load_row rows at) net
+module _ (rows : List (List ℕ)) (at : Option ℕ) (net : List ℕ) where
+  pub based_at : (i : ℕ) → at ≡ Some i → i < 64 → Based (get_or rows i []) net → Based (load_row rows at) net
   unfolding load_row
   based_at i e h b = rw (e, lt-ltb i 64 h) b
 
@@ -185,10 +184,10 @@ module _ (rows : List (List ℕ)) (at : Found) (net : List ℕ) where
         each = λ s h. omega (arith, get_or-replicate 50 s base 0 h, get_or-replicate {A = ℕ} 50 s 0 0 h);
       })
 
-  pub based_past : (i : ℕ) → at ≡ At i → 64 ≤ i → net ≡ replicate 50 base → Based (load_row rows at) net
+  pub based_past : (i : ℕ) → at ≡ Some i → 64 ≤ i → net ≡ replicate 50 base → Based (load_row rows at) net
   unfolding load_row
   based_past i e h b = rw (e, le-ltb i 64 h) (none b)
 
-  pub based_nothing : at ≡ Nothing → net ≡ replicate 50 base → Based (load_row rows at) net
+  pub based_nothing : at ≡ None → net ≡ replicate 50 base → Based (load_row rows at) net
   unfolding load_row
   based_nothing e b = rw e (none b)

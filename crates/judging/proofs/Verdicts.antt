@@ -1,42 +1,43 @@
 -- The verdict of the checks 32 to 35, by the steps that the searches find.
-use Rattle.std.proofs.Common.{◌≡◌, ℕ, ◌+◌, ◌-◌, ◌<◌, ◌≤◌, Bool, true, false, not, ◌&&◌, ◌||◌, ltb, leb, List, get_or, sym, ap, ◌∙◌, ap₂, arith, le-ltb, leb-true}
-use native.Mathlib.Decide.{ℕ_discrete}
-use borrow.Author.Tests.{not-false}
+use Rattle.std.proofs.Common.{◌≡◌, ℕ, ◌+◌, ◌-◌, ◌<◌, ◌≤◌, Bool, true, false, cond, ◌&&◌, ltb, leb, List, get_or, sym, ◌∙◌, ap₂, arith, le-ltb, leb-true}
 use Rattle.lists.specs.Searches.{first_from}
 use Rattle.lists.proofs.Searches.{first_agree, first_none}
-use Rattle.lists.proofs.Tests.{both_true, or_left, or_right}
-use Rattle.refusals.specs.Tests.{first_met, tried}
-use Rattle.refusals.specs.declared.StateRefusal.{StateRefusal}
+use Rattle.lists.proofs.Tests.{by_test, both_true}
+use Rattle.std.specs.Prelude.{Ok, Err, ⊤}
+use Rattle.refusals.specs.Tests.{Verdict, pass, first_met}
+use Rattle.refusals.specs.declared.Refusal.{Refusal}
 use Rattle.refusals.specs.declared.Refusal.TheVariants.{State}
-use Rattle.refusals.specs.declared.Verdict.{Verdict}
-use Rattle.refusals.specs.declared.Verdict.TheVariants.{Pass}
-use Rattle.refusals.proofs.Tests.{all_pass}
+use Rattle.refusals.specs.declared.StateRefusal.{StateRefusal}
 use Rattle.ledger.specs.Filing.{failing}
+use Rattle.refusals.proofs.Tests.{all_pass, refused_pass}
 use Rattle.judging.specs.Nets.{base}
 use Rattle.judging.specs.Steps.{below_at, step_fits, net_tests}
 use Rattle.judging.specs.declared.nets.Nets.{Nets}
 
--- one check more, tried with the step that a search by two lists found, by what the lists hold
-pub then_checked : (first until : ℕ) → first ≤ until → until ≤ 50 → (r : StateRefusal) (left right : List ℕ) (f g : ℕ → ℕ) →
+-- the step that a search by two lists found, by what the lists hold
+pub found_by : (first until : ℕ) → first ≤ until → until ≤ 50 → (left right : List ℕ) (f g : ℕ → ℕ) →
     ((s : ℕ) → s < 50 → get_or left s 0 ≡ f s) → ((s : ℕ) → s < 50 → get_or right s 0 ≡ g s) →
     (s : ℕ) → s ≡ first_from (below_at left right) first (until - first) →
-    (u v w : Verdict) → w ≡ tried v (ltb s until, State r s) → v ≡ u →
-    w ≡ tried u (failing r (λ s. ltb (f s) (g s)) first until)
-then_checked first until h i r left right f g l m s e u v w t p =
-    t ∙ ap₂ (λ v s. tried v (ltb s until, State r s)) p
+    first_from (λ s. ltb (f s) (g s)) first (until - first) ≡ s
+found_by first until h i left right f g l m s e =
+    sym
     (e ∙ first_agree (below_at left right) (λ s. ltb (f s) (g s)) first (until - first)
     (λ s a b. ap₂ ltb (l s (omega arith)) (m s (omega arith))))
 
--- ---- where every step fits, no check fails
+-- a check with the step that its search finds: it refuses there, or the checks after it decide
+module _ (f : StateRefusal) (p : ℕ → Bool) (first until s : ℕ) (found : first_from p first (until - first) ≡ s) (rest : Verdict) where
+  abbrev pub checked : Verdict
+  checked = cond (failing f p first until).0 (Err (failing f p first until).1) rest
 
--- one step more that fits, while the steps passed all fit
-pub fit_more : (p : ℕ → Bool) (first s : ℕ) (x failed : Bool) → x ≡ p s → (failed ≡ false → (j : ℕ) → first ≤ j → j < s → p j ≡ true) →
-    (failed || not x) ≡ false → (j : ℕ) → first ≤ j → j < s + 1 → p j ≡ true
-fit_more p first s x failed e f t j h l = go (ℕ_discrete j s)
-  where
-    go : Dec (j ≡ s) → p j ≡ true
-    go (yes q) = ap p q ∙ (sym e ∙ not-false x (or_right failed (not x) t))
-    go (no ne) = f (or_left failed (not x) t) j h (omega arith)
+  pub refused_at : (r : Refusal) → Err r ≡ cond (ltb s until) (Err (State f s)) pass → Err r ≡ checked
+  refused_at r e =
+      rw found (by_test (ltb s until) (λ t. rw t (rw t at e)) (λ t. refused_pass r (rw t at e)))
+
+  pub passed_at : (u : ⊤) → Ok u ≡ cond (ltb s until) (Err (State f s)) pass → rest ≡ checked
+  passed_at u e =
+      rw found (by_test (ltb s until) (λ t. refused_pass (State f s) (sym (rw t at e))) (λ t. rw t))
+
+-- ---- where every step fits, no check fails
 
 -- the four checks of a step that fits
 abbrev Passes : (c a p ceders acquirers : ℕ) → Type 0
@@ -56,7 +57,7 @@ step_passes c a p ceders acquirers e =
 
 pub all_passed : (nets : Nets) (ps : List ℕ) (ceders acquirers first until : ℕ) → first ≤ until →
     ((s : ℕ) → first ≤ s → s < until → step_fits (get_or nets.ceder s 0) (get_or nets.acquirer s 0) (get_or ps s 0) ceders acquirers ≡ true) →
-    Pass ≡ first_met (net_tests nets ps ceders acquirers first until)
+    pass ≡ first_met (net_tests nets ps ceders acquirers first until)
 unfolding net_tests
 all_passed nets ps ceders acquirers first until h fit =
     let none : (p : ℕ → Bool) → ((s : ℕ) → first ≤ s → s < until → p s ≡ false) → ltb (first_from p first (until - first)) until ≡ false =

@@ -1,12 +1,11 @@
 // What the ceder and the acquirer of a filing would have at the counted steps without the key's own power: loaded, plus
 // what other records let them acquire, less what those let them cede. Both are counted from a base, so that none falls
 // below 0.
-ghost use Rattle.std.specs.Prelude.{◌≡◌, ◌+◌, ◌<◌, ◌≤◌, ◌&&◌, [], length, replicate, if◌then◌else◌, nat_le, nat_lt, slice_index_or};
+ghost use Rattle.std.specs.Prelude.{◌≡◌, ◌+◌, ◌≤◌, ◌&&◌, replicate, if◌then◌else◌, nat_le, nat_lt};
 ghost use Rattle.tables.specs.Passing.{load_row};
 ghost use Rattle.judging.specs.Nets.{base, Between, Moved, Applied, Based};
 
-use lists::numbers::{byte, wide};
-use tables::loads::{Found, LOADS};
+use tables::loads::LOADS;
 
 // More than all records can take away.
 pub const BASE: u32 = 16777216;
@@ -23,7 +22,7 @@ fn within(p: u16, from: u32, till: u32, s: u32) -> u32
     ensures { (result ≡ (if nat_le from s && nat_lt s till then p else 0)) × (result ≤ 65535) }
 {
     if (from <= s) & (s < till) {
-        return wide(p);
+        return u32::from(p);
     }
     0
 }
@@ -35,28 +34,25 @@ fn only(on: bool, p: u32) -> u32
     if on { p } else { 0 }
 }
 
-// Puts the powers of load i, counted from the base, into a net.
-fn put_load(net: &mut [u32; 50], rows: &[[u16; 50]; 64], i: u32)
-    requires { (i < 64) × (length net.old ≡ 50) }
-    ensures { Based (slice_index_or rows.now i []) net.new }
+// Puts the powers of a load, counted from the base, into a net.
+fn put_load(net: &mut [u32; 50], row: &[u16; 50])
+    ensures { Based row.now net.new }
 {
-    let mut s: usize = 0;
-    while s < 50 {
-        net[s] = BASE + wide(rows[i as usize][s]);
-        s += 1;
+    for (s, n) in net.iter_mut().enumerate() {
+        *n = BASE + u32::from(row[s]);
     }
 }
 
 // Starts a net, which stands at the base, with the powers of a load that was found, or with none. The caller has just
 // made the net: to set it to its base here would be done twice.
-pub fn start_net(net: &mut [u32; 50], rows: &[[u16; 50]; 64], at: Found)
+pub fn start_net(net: &mut [u32; 50], rows: &[[u16; 50]; 64], at: Option<u32>)
     requires { net.old ≡ replicate 50 base }
     ensures { Based (load_row rows.now at) net.new }
 {
-    if let Found::At(i) = at {
-        if i < LOADS {
-            put_load(net, rows, i);
-        }
+    if let Some(i) = at
+        && i < LOADS
+    {
+        put_load(net, &rows[i as usize]);
     }
 }
 
@@ -69,39 +65,27 @@ fn moved(x: u32, gains: bool, p: u32) -> u32
 }
 
 // A net with a record's whole row gained, or given.
-fn move_row(net: &mut [u32; 50], gains: bool, rows: &[[u16; 50]; 256], i: u32)
-    requires { (i < 256) × Between net.old 65535 4294901760 }
-    ensures { Moved net.old gains (slice_index_or rows.now i []) net.new }
+fn move_row(net: &mut [u32; 50], gains: bool, row: &[u16; 50])
+    requires { Between net.old 65535 4294901760 }
+    ensures { Moved net.old gains row.now net.new }
 {
-    let mut s: usize = 0;
-    while s < 50 {
-        net[s] = moved(net[s], gains, wide(rows[i as usize][s]));
-        s += 1;
+    for (s, n) in net.iter_mut().enumerate() {
+        *n = moved(*n, gains, u32::from(row[s]));
     }
 }
 
 // A net with a record's powers gained, or given, at the steps of its span. Each step is looked at, so that many are
 // moved at once.
-fn apply_in_span(
-    net: &mut [u32; 50],
-    gains: bool,
-    gives: bool,
-    mark: [u8; 4],
-    rows: &[[u16; 50]; 256],
-    i: u32,
-)
-    requires { (i < 256) × Between net.old 65535 4294901760 }
-    ensures { Applied net.old gains gives mark (slice_index_or rows.now i []) 0 50
-        net.new }
+fn apply_in_span(net: &mut [u32; 50], gains: bool, gives: bool, mark: [u8; 4], row: &[u16; 50])
+    requires { Between net.old 65535 4294901760 }
+    ensures { Applied net.old gains gives mark row.now 0 50 net.new }
 {
-    let from = byte(mark[1]);
-    let till = byte(mark[2]);
-    let mut s: u32 = 0;
-    while s < 50 {
-        let p = within(rows[i as usize][s as usize], from, till, s);
-        let more = net[s as usize] + only(gains, p);
-        net[s as usize] = more - only(gives, p);
-        s += 1;
+    let from = u32::from(mark[1]);
+    let till = u32::from(mark[2]);
+    for (s, n) in net.iter_mut().enumerate() {
+        let p = within(row[s], from, till, s as u32);
+        let more = *n + only(gains, p);
+        *n = more - only(gives, p);
     }
 }
 
@@ -112,26 +96,24 @@ pub(crate) fn apply_record(
     gains: bool,
     gives: bool,
     mark: [u8; 4],
-    rows: &[[u16; 50]; 256],
-    i: u32,
+    row: &[u16; 50],
     first: u32,
     until: u32,
 )
-    requires { (i < 256) × (until ≤ 50) × Between net.old 65535 4294901760 }
-    ensures { Applied net.old gains gives mark (slice_index_or rows.now i []) first until
-        net.new }
+    requires { (until ≤ 50) × Between net.old 65535 4294901760 }
+    ensures { Applied net.old gains gives mark row.now first until net.new }
 {
     if gains == gives {
         return;
     }
-    let from = byte(mark[1]);
-    let till = byte(mark[2]);
+    let from = u32::from(mark[1]);
+    let till = u32::from(mark[2]);
     if till <= first {
         return;
     }
     if (from <= first) & (until <= till) {
-        move_row(net, gains, rows, i);
+        move_row(net, gains, row);
         return;
     }
-    apply_in_span(net, gains, gives, mark, rows, i)
+    apply_in_span(net, gains, gives, mark, row)
 }

@@ -1,13 +1,13 @@
 // Passing the records of a filing's category and day, once for all: those under its own key are listed, and the others
 // are applied to the nets of ceder and acquirer.
 ghost use Rattle.std.specs.Prelude.{◌≡◌, ℕ, ◌+◌, ◌/◌, ◌<◌, ◌≤◌, true, List, length};
-ghost use Rattle.tables.specs.Tables.{columns};
+ghost use Rattle.tables.specs.Lent.{columns_of};
 ghost use Rattle.tables.specs.Passing.{in_market, is_under, PlacesOf};
 ghost use Rattle.judging.specs.Nets.{base, Between, moves_for, PassedOne, Netted};
 
 use crate::nets::apply_record;
 use tables::markets::next_of;
-use tables::records::{UPDATED, VALIDATED};
+use tables::records::{Records, UPDATED, VALIDATED};
 
 // Whether a record moves power, with one of two actors as a party.
 fn is_concerned(key: u32, status: u8, ceder: u32, acquirer: u32) -> bool
@@ -28,20 +28,17 @@ fn pass_record(
     acquirer: &mut [u32; 50],
     places: &mut [u8; 256],
     count: u32,
-    statuses: &[u8; 256],
-    keys: &[u32; 256],
-    marks: &[[u8; 4]; 256],
-    rows: &[[u16; 50]; 256],
+    records: Records,
     i: u32,
     own: u32,
     first: u32,
     until: u32,
 ) -> u32
-    requires { ((i < 256) × (count ≤ i) × (until ≤ 50)) × (in_market keys.now (own / 64) i ≡ true)
+    requires { ((i < 256) × (count ≤ i) × (until ≤ 50)) × (in_market records.keys.now (own / 64) i ≡ true)
         × (length places.old ≡ 256) × Between ceder.old 65535 4294901760
         × Between acquirer.old 65535 4294901760 }
     ensures { (ids : List ℕ) → PassedOne
-        (columns statuses.now ids keys.now marks.now rows.now)
+        (columns_of records.entry ids)
         own first until i
         (record {
           ceder = ceder.old;
@@ -57,22 +54,22 @@ fn pass_record(
         }) }
 {
     let at = i as usize;
-    let key = keys[at];
+    let key = records.keys[at];
     if key == own {
         places[count as usize] = i as u8;
         return count + 1;
     }
     let c = own / 8 % 8;
     let a = own % 8;
-    if is_concerned(key, statuses[at], c, a) {
-        let mark = marks[at];
+    if is_concerned(key, records.statuses[at], c, a) {
+        let mark = records.marks[at];
+        let row = &records.rows[at];
         apply_record(
             ceder,
             key % 8 == c,
             key / 8 % 8 == c,
             mark,
-            rows,
-            i,
+            row,
             first,
             until,
         );
@@ -81,8 +78,7 @@ fn pass_record(
             key % 8 == a,
             key / 8 % 8 == a,
             mark,
-            rows,
-            i,
+            row,
             first,
             until,
         );
@@ -96,10 +92,7 @@ pub fn pass_records(
     ceder: &mut [u32; 50],
     acquirer: &mut [u32; 50],
     places: &mut [u8; 256],
-    statuses: &[u8; 256],
-    keys: &[u32; 256],
-    marks: &[[u8; 4]; 256],
-    rows: &[[u16; 50]; 256],
+    records: Records,
     n: u32,
     own: u32,
     first: u32,
@@ -108,22 +101,22 @@ pub fn pass_records(
     requires { (n ≤ 256) × (until ≤ 50) × Between ceder.old base (base + 65535)
         × Between acquirer.old base (base + 65535) × (length places.old ≡ 256) }
     ensures { ((ids : List ℕ) → Netted
-        (columns statuses.now ids keys.now marks.now rows.now)
+        (columns_of records.entry ids)
         n own (record { ceder = ceder.old; acquirer = acquirer.old })
         first until (record { ceder = ceder.new; acquirer = acquirer.new }))
-        × PlacesOf (is_under keys.now own) n result places.new }
+        × PlacesOf (is_under records.entry.keys.now own) n result places.new }
 {
     let mut count: u32 = 0;
     let mut i: u32 = 0;
+    // By index: each search begins past the place that the last one found, which an iterator would have to carry too.
     loop {
-        let k = next_of(keys, i, n, own / 64);
+        let k = next_of(records.keys, i, n, own / 64);
         if n <= k {
             break;
         }
-        let more = pass_record(
-            ceder, acquirer, places, count, statuses, keys, marks, rows, k, own, first, until,
+        count = pass_record(
+            ceder, acquirer, places, count, records, k, own, first, until,
         );
-        count = more;
         i = k + 1;
     }
     count

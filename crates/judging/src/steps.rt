@@ -6,10 +6,9 @@ ghost use Rattle.judging.specs.Nets.{most};
 ghost use Rattle.judging.specs.Steps.{below_at, step_fits, net_tests};
 
 use crate::nets::{BASE, Nets};
-use lists::numbers::wide;
-use refusals::trying::try_at;
-use refusals::{StateRefusal, Verdict};
-use std::num::wrapping_sub_u32;
+use refusals::trying::refuse_if;
+use refusals::{Refusal, StateRefusal};
+use std::array;
 
 // The first of the steps from `first` to before `until` at which one number is below another; `until` where there is
 // none.
@@ -17,17 +16,12 @@ fn first_below(left: [u32; 50], right: [u32; 50], first: u32, until: u32) -> u32
     requires { (first ≤ until) × (until ≤ 50) }
     ensures { result ≡ first_from (below_at left right) first (until - first) }
 {
-    let mut s = first;
-    let found = loop {
-        if until <= s {
-            break until;
-        }
+    for s in first..until {
         if left[s as usize] < right[s as usize] {
-            break s;
+            return s;
         }
-        s += 1;
-    };
-    found
+    }
+    until
 }
 
 // A number and the power at each step.
@@ -35,13 +29,7 @@ fn plus(n: u32, ps: [u16; 50]) -> [u32; 50]
     requires { n ≤ 4294901760 }
     ensures { (s : ℕ) → s < 50 → slice_index result s ≡ n + slice_index ps s }
 {
-    let mut sums = [n; 50];
-    let mut s: usize = 0;
-    while s < 50 {
-        sums[s] = n + wide(ps[s]);
-        s += 1;
-    }
-    sums
+    ps.map(|p| n + u32::from(p))
 }
 
 // A net and the power at each step.
@@ -49,13 +37,7 @@ fn sums(net: [u32; 50], ps: [u16; 50]) -> [u32; 50]
     requires { (s : ℕ) → s < 50 → slice_index net s ≤ most }
     ensures { (s : ℕ) → s < 50 → slice_index result s ≡ slice_index net s + slice_index ps s }
 {
-    let mut sums = net;
-    let mut s: usize = 0;
-    while s < 50 {
-        sums[s] = net[s] + wide(ps[s]);
-        s += 1;
-    }
-    sums
+    array::from_fn(|s| net[s] + u32::from(ps[s]))
 }
 
 // 32 to 35, each looked for at all counted steps before the next.
@@ -66,22 +48,21 @@ fn failing_verdict(
     acquirers: u32,
     first: u32,
     until: u32,
-) -> Verdict
+) -> Result<(), Refusal>
     requires { (first ≤ until) × (until ≤ 50) × (ceders ≤ 65535) × (acquirers ≤ 65535)
         × ((s : ℕ) → s < 50 → slice_index nets.acquirer s ≤ most) }
     ensures { result ≡ first_met (net_tests nets ps ceders acquirers first until) }
 {
     let ceder = nets.ceder;
-    let acquirer = nets.acquirer;
-    let taken = sums(acquirer, ps);
+    let taken = sums(nets.acquirer, ps);
     let s = first_below(ceder, plus(BASE, ps), first, until);
-    let v = try_at(Verdict::Pass, s < until, StateRefusal::CederBelow, s);
+    refuse_if(s < until, Refusal::State(StateRefusal::CederBelow, s))?;
     let s = first_below([BASE + acquirers; 50], taken, first, until);
-    let v = try_at(v, s < until, StateRefusal::AcquirerAbove, s);
+    refuse_if(s < until, Refusal::State(StateRefusal::AcquirerAbove, s))?;
     let s = first_below(plus(BASE + ceders, ps), ceder, first, until);
-    let v = try_at(v, s < until, StateRefusal::CederAbove, s);
+    refuse_if(s < until, Refusal::State(StateRefusal::CederAbove, s))?;
     let s = first_below(taken, [BASE; 50], first, until);
-    try_at(v, s < until, StateRefusal::AcquirerBelow, s)
+    refuse_if(s < until, Refusal::State(StateRefusal::AcquirerBelow, s))
 }
 
 // Whether a number is one of the `more + 1` numbers from `least` on, by one comparison: below `least` the difference
@@ -90,7 +71,7 @@ fn is_from(x: u32, least: u32, more: u32) -> bool
     requires { (least ≤ 4294901760) × (more ≤ 65535) }
     ensures { result ≡ (nat_le least x && nat_le x (least + more)) }
 {
-    wrapping_sub_u32(x, least) <= more
+    x.wrapping_sub(least) <= more
 }
 
 // Whether a step passes 32 to 35: with the filed power moved, ceder and acquirer have from 0 to their approved power.
@@ -118,11 +99,15 @@ fn all_fit(
         ceders acquirers ≡ true }
 {
     let mut failed = false;
-    let mut s = first;
-    while s < until {
+    for s in first..until {
         let at = s as usize;
-        failed = failed | !fits(ceder[at], acquirer[at], wide(ps[at]), ceders, acquirers);
-        s += 1;
+        failed |= !fits(
+            ceder[at],
+            acquirer[at],
+            u32::from(ps[at]),
+            ceders,
+            acquirers,
+        );
     }
     !failed
 }
@@ -137,7 +122,7 @@ pub fn step_verdict(
     acquirers: u32,
     first: u32,
     until: u32,
-) -> Verdict
+) -> Result<(), Refusal>
     requires { (first ≤ until) × (until ≤ 50) × (ceders ≤ 65535) × (acquirers ≤ 65535)
         × ((s : ℕ) → s < 50 → slice_index acquirer.now s ≤ most) }
     ensures { result ≡ first_met (net_tests
@@ -145,7 +130,7 @@ pub fn step_verdict(
         ceders acquirers first until) }
 {
     if all_fit(ceder, acquirer, ps, ceders, acquirers, first, until) {
-        return Verdict::Pass;
+        return Ok(());
     }
     let nets = Nets {
         ceder: *ceder,

@@ -3,8 +3,9 @@
 ghost use Rattle.std.specs.Prelude.{◌≤◌};
 
 use crate::printing::sum_of;
-use notification::Reading;
+use notification::Notification;
 use reader::pieces::FileReader;
+use refusals::Refusal;
 
 // The number after another in a row that looks like chance.
 fn next(seed: u32) -> u32 {
@@ -12,7 +13,7 @@ fn next(seed: u32) -> u32 {
 }
 
 // What a file is read as, its body cut at a place, with an empty piece in between.
-fn in_two(name: &[u8], body: &[u8], at: usize) -> Reading {
+fn in_two(name: &[u8], body: &[u8], at: usize) -> Result<Notification, Refusal> {
     let (first, second) = body.split_at(at.min(body.len()));
     FileReader::begin(name)
         .feed(first)
@@ -30,7 +31,7 @@ fn piece_length(row: u32, most: u32) -> usize
 }
 
 // The same in pieces of such lengths: the way says how long they are at most, and which row of numbers is taken.
-fn in_pieces(name: &[u8], body: &[u8], way: u16) -> Reading {
+fn in_pieces(name: &[u8], body: &[u8], way: u16) -> Result<Notification, Refusal> {
     let mut reader = FileReader::begin(name);
     let mut row = u32::from(way) + 1;
     let mut rest = body;

@@ -35,8 +35,9 @@ use Rattle.reader.specs.Folding.{
 }
 use Rattle.reader.specs.InHand.{InHand, in_hand, begun, length_with, has_name, counts, walked, gone_on, continued, fed, ended}
 use Rattle.reader.specs.declared.pieces.FileReader.{FileReader}
-use Rattle.reader.specs.declared.tally.LinePower.{LinePower}
-use Rattle.reader.specs.declared.tally.LinePower.TheVariants.{Gives, NoLabels, NoPower}
+use Rattle.reader.specs.declared.tally.StepFault.{StepFault}
+use Rattle.reader.specs.declared.tally.StepFault.TheVariants.{NoLabels, NoPower}
+use Rattle.std.specs.Prelude.{Result, Ok, Err}
 use Rattle.notification.proofs.Lengths.{header_between}
 use Rattle.notification.proofs.Names.{name_back}
 use Rattle.notification.proofs.Stored.{filled_length}
@@ -47,10 +48,10 @@ use Rattle.reader.proofs.InPieces.{fed_none, fed_first, fed_on, Fed, begins, fee
 abbrev count : FileTaken → ℕ
 count x = length x.steps.powers
 
-judged_count : (x : Taken) (said : LinePower) → length (judged first_line x said).powers ≡ length x.powers
-judged_count x (Gives p) = length-set x.powers x.tally.lines p
-judged_count x NoLabels = refl
-judged_count x NoPower = refl
+judged_count : (x : Taken) (said : Result ℕ StepFault) → length (judged first_line x said).powers ≡ length x.powers
+judged_count x (Ok p) = length-set x.powers x.tally.lines p
+judged_count x (Err NoLabels) = refl
+judged_count x (Err NoPower) = refl
 
 module _ (steps : ℕ) where
   step_count_lem : (x : Taken) (l : List ℕ) → length (take_step steps x l).powers ≡ length x.powers

@@ -26,8 +26,9 @@ use Rattle.notification.proofs.Places.{places_filled, places_every, places_zero}
 use Rattle.reader.specs.Folding.{Taken, one_more, counted, labels_fault, power_fault, faulted, judged, is_over, step_taken, take_all, no_steps}
 use Rattle.reader.specs.Folding.{fault_of, outcome_of, judgement}
 use Rattle.reader.specs.declared.tally.Tally.{Tally}
-use Rattle.reader.specs.declared.tally.LinePower.{LinePower}
-use Rattle.reader.specs.declared.tally.LinePower.TheVariants.{Gives, NoLabels, NoPower}
+use Rattle.reader.specs.declared.tally.StepFault.{StepFault}
+use Rattle.reader.specs.declared.tally.StepFault.TheVariants.{NoLabels, NoPower}
+use Rattle.std.specs.Prelude.{Result, Ok, Err}
 
 -- ---- what the steps come to
 
@@ -82,7 +83,7 @@ zero_places ps h =
 
 -- ---- steps one after another
 
-module _ {A : Type 0} (say : ℕ → A → LinePower) (first steps : ℕ) where
+module _ {A : Type 0} (say : ℕ → A → Result ℕ StepFault) (first steps : ℕ) where
   abbrev take : Taken → List A → Taken
   take x xs = take_all say first steps x xs
 
@@ -91,10 +92,10 @@ module _ {A : Type 0} (say : ℕ → A → LinePower) (first steps : ℕ) where
 
   -- ---- how many steps
 
-  judged_count : (x : Taken) (l : LinePower) → (judged first x l).tally.lines ≡ one_more x.tally.lines
-  judged_count x (Gives p) = refl
-  judged_count x NoLabels = refl
-  judged_count x NoPower = refl
+  judged_count : (x : Taken) (l : Result ℕ StepFault) → (judged first x l).tally.lines ≡ one_more x.tally.lines
+  judged_count x (Ok p) = refl
+  judged_count x (Err NoLabels) = refl
+  judged_count x (Err NoPower) = refl
 
   next_count : (x : Taken) (a : A) → (next x a).tally.lines ≡ one_more x.tally.lines
   next_count x a =
@@ -112,15 +113,15 @@ module _ {A : Type 0} (say : ℕ → A → LinePower) (first steps : ℕ) where
   -- ---- the first fault
 
   -- what step k is refused by, and what its power is
-  abbrev pub refused_by : ℕ → LinePower → Verdict
-  refused_by k (Gives p) = pass
-  refused_by k NoLabels = Err (Input Labels (k + first))
-  refused_by k NoPower = Err (Input Power (k + first))
+  abbrev pub refused_by : ℕ → Result ℕ StepFault → Verdict
+  refused_by k (Ok p) = pass
+  refused_by k (Err NoLabels) = Err (Input Labels (k + first))
+  refused_by k (Err NoPower) = Err (Input Power (k + first))
 
-  abbrev pub power_said : LinePower → ℕ
-  power_said (Gives p) = p
-  power_said NoLabels = 0
-  power_said NoPower = 0
+  abbrev pub power_said : Result ℕ StepFault → ℕ
+  power_said (Ok p) = p
+  power_said (Err NoLabels) = 0
+  power_said (Err NoPower) = 0
 
   unfoldable pub verdict_from : ℕ → List A → Verdict
   verdict_from k [] = pass
@@ -157,7 +158,7 @@ module _ {A : Type 0} (say : ℕ → A → LinePower) (first steps : ℕ) where
       }
 
   -- one good step, and those after it
-  kept_more : (k p : ℕ) (x y : Taken) (a : A) (xs : List A) → next x a ≡ y → say k a ≡ Gives p
+  kept_more : (k p : ℕ) (x y : Taken) (a : A) (xs : List A) → next x a ≡ y → say k a ≡ Ok p
       → y.powers ≡ set x.powers k p → Kept (suc k) y xs → Kept k x (a ∷ xs)
   unfolding verdict_from powers_from
   kept_more k p x y a xs e g w r =
@@ -185,16 +186,16 @@ module _ {A : Type 0} (say : ℕ → A → LinePower) (first steps : ℕ) where
       with_fault : ℕ → Taken
       with_fault n = record { tally = faulted x.tally n (x.tally.lines + first); powers = x.powers }
 
-      by_said : (l : LinePower) → say x.tally.lines a ≡ l → ((p : ℕ) → Kept (with_power x p).tally.lines (with_power x p) xs)
+      by_said : (l : Result ℕ StepFault) → say x.tally.lines a ≡ l → ((p : ℕ) → Kept (with_power x p).tally.lines (with_power x p) xs)
           → Kept x.tally.lines x (a ∷ xs)
-      by_said (Gives p) e more =
+      by_said (Ok p) e more =
           let n : (with_power x p).tally.lines ≡ suc x.tally.lines = omega arith in
           kept_more x.tally.lines p x (with_power x p) a xs (judged_next ∙ rw e) e refl
           (subst (λ (m : ℕ). Kept m (with_power x p) xs) n (more p))
-      by_said NoLabels e more =
+      by_said (Err NoLabels) e more =
           refused_kept x.tally.lines x (with_fault labels_fault) (Input Labels (x.tally.lines + first)) a xs
           (judged_next ∙ rw e) refl refl (rw e)
-      by_said NoPower e more =
+      by_said (Err NoPower) e more =
           refused_kept x.tally.lines x (with_fault power_fault) (Input Power (x.tally.lines + first)) a xs
           (judged_next ∙ rw e) refl refl (rw e)
 

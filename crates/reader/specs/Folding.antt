@@ -9,8 +9,9 @@ use Rattle.notification.specs.Reading.{is_header, lines_in}
 use Rattle.notification.specs.declared.Key.{Key}
 use Rattle.notification.specs.declared.Notification.{Notification}
 use Rattle.reader.specs.declared.lines.FileTally.{FileTally}
-use Rattle.reader.specs.declared.tally.LinePower.{LinePower}
-use Rattle.reader.specs.declared.tally.LinePower.TheVariants.{Gives, NoLabels, NoPower}
+use Rattle.reader.specs.declared.tally.StepFault.{StepFault}
+use Rattle.reader.specs.declared.tally.StepFault.TheVariants.{NoLabels, NoPower}
+use Rattle.std.specs.Prelude.{Result, Ok, Err}
 use Rattle.reader.specs.declared.tally.Tally.{Tally}
 use Rattle.reader.specs.Walking.{starts_with, line_power, whole_to, rest_in}
 
@@ -39,22 +40,22 @@ abbrev pub faulted : Tally → ℕ → ℕ → Tally
 faulted t number place = record { lines = one_more t.lines; fault = number; place = place }
 
 -- a step of the day, after no fault: its power, or the first fault, where the place of the first step is given
-abbrev pub judged : ℕ → Taken → LinePower → Taken
-judged first x (Gives p) = record { tally = counted x.tally; powers = set x.powers x.tally.lines p }
-judged first x NoLabels = record { tally = faulted x.tally labels_fault (x.tally.lines + first); powers = x.powers }
-judged first x NoPower = record { tally = faulted x.tally power_fault (x.tally.lines + first); powers = x.powers }
+abbrev pub judged : ℕ → Taken → Result ℕ StepFault → Taken
+judged first x (Ok p) = record { tally = counted x.tally; powers = set x.powers x.tally.lines p }
+judged first x (Err NoLabels) = record { tally = faulted x.tally labels_fault (x.tally.lines + first); powers = x.powers }
+judged first x (Err NoPower) = record { tally = faulted x.tally power_fault (x.tally.lines + first); powers = x.powers }
 
 -- after a fault, and past the day's steps, a step is only counted
 abbrev pub is_over : ℕ → Tally → Bool
 is_over steps t = not (eqb t.fault 0) || leb steps t.lines
 
 -- the next step, by what is said of it
-abbrev pub step_taken : ℕ → ℕ → Taken → LinePower → Taken
+abbrev pub step_taken : ℕ → ℕ → Taken → Result ℕ StepFault → Taken
 step_taken first steps x said =
     cond (is_over steps x.tally) (record { tally = counted x.tally; powers = x.powers }) (judged first x said)
 
 -- steps one after another, by what is said of each as step k
-unfoldable pub take_all : {A : Type 0} → (ℕ → A → LinePower) → ℕ → ℕ → Taken → List A → Taken
+unfoldable pub take_all : {A : Type 0} → (ℕ → A → Result ℕ StepFault) → ℕ → ℕ → Taken → List A → Taken
 take_all say first steps x [] = x
 take_all say first steps x (a ∷ xs) = take_all say first steps (step_taken first steps x (say x.tally.lines a)) xs
 

@@ -74,14 +74,8 @@ struct WholeLine {
 fn length_with(before: u32, piece: &[u8]) -> u32
     ensures { result ≡ length_with before piece.now }
 {
-    if MOST_BYTES < before {
-        return TOO_MANY;
-    }
-    let room = (MOST_BYTES - before) as usize;
-    if room < piece.len() {
-        return TOO_MANY;
-    }
-    before + piece.len() as u32
+    let total = (before as usize).saturating_add(piece.len());
+    total.min(TOO_MANY as usize) as u32
 }
 
 // The header's line that a name asks for, with its LF.
@@ -206,7 +200,6 @@ impl FileReader {
         let tally = run.tally;
         let at = run.at;
         FileReader {
-            day: self.day,
             steps,
             named,
             length: total,
@@ -214,7 +207,7 @@ impl FileReader {
             powers,
             held: least_length(piece.len() - at, HELD as usize) as u32,
             line: first_bytes(piece, at),
-            header,
+            ..self
         }
     }
 
@@ -229,11 +222,12 @@ impl FileReader {
         let whole = whole_line(line, self.held, piece, end);
         let text = whole.text;
         if piece.len() <= end {
-            let mut next = self;
-            next.length = total;
-            next.held = whole.length;
-            next.line = first_bytes(&text, 0);
-            return next;
+            return FileReader {
+                length: total,
+                held: whole.length,
+                line: first_bytes(&text, 0),
+                ..self
+            };
         }
         let header = self.header;
         let n = least(self.named, LONGEST_HEADER) as usize;
@@ -258,9 +252,10 @@ impl FileReader {
     {
         let total = length_with(self.length, piece);
         if (self.named < SHORTEST_HEADER) | (MOST_BYTES < total) {
-            let mut next = self;
-            next.length = total;
-            return next;
+            return FileReader {
+                length: total,
+                ..self
+            };
         }
         if self.held == 0 {
             let tally = self.tally;

@@ -26,22 +26,24 @@ pub struct Tally {
     pub place: u32,
 }
 
-// What is said of a step.
+// Why a step gives no power.
 #[derive(Clone, Copy)]
-pub enum LinePower {
-    Gives(u16),
+pub enum StepFault {
     NoLabels,
     NoPower,
+}
+
+// Lines that were taken, and where the next one begins.
+#[derive(Clone, Copy)]
+pub struct Run<T> {
+    pub tally: T,
+    pub at: usize,
 }
 
 fn one_more(lines: u32) -> u32
     ensures { result ≡ min (lines + 1) 51 }
 {
-    if lines < MOST_LINES {
-        lines + 1
-    } else {
-        MOST_LINES
-    }
+    lines.saturating_add(1).min(MOST_LINES)
 }
 
 // A step more.
@@ -50,8 +52,7 @@ pub fn count(t: Tally) -> Tally
 {
     Tally {
         lines: one_more(t.lines),
-        fault: t.fault,
-        place: t.place,
+        ..t
     }
 }
 
@@ -75,19 +76,19 @@ pub fn is_over(t: Tally, steps: u32) -> bool
 
 // The next step of the day, by what is said of it: its power in its place, or the first fault. The place of the first
 // step is given.
-pub fn note(t: Tally, first: u32, said: LinePower, powers: &mut [u16; 50]) -> Tally
+pub fn note(t: Tally, first: u32, said: Result<u16, StepFault>, powers: &mut [u16; 50]) -> Tally
     requires { (t.lines < places) × (first ≤ 2) }
     ensures { record { tally = result; powers = powers.new }
         ≡ judged first (record { tally = t; powers = powers.old }) said }
 {
     let k = t.lines;
     match said {
-        LinePower::Gives(v) => {
+        Ok(v) => {
             powers[k as usize] = v;
             count(t)
         }
-        LinePower::NoLabels => fault(t, LABELS, k + first),
-        LinePower::NoPower => fault(t, POWER, k + first),
+        Err(StepFault::NoLabels) => fault(t, LABELS, k + first),
+        Err(StepFault::NoPower) => fault(t, POWER, k + first),
     }
 }
 

@@ -35,8 +35,6 @@ module _ (s k x y : Bool) where
   second_false : k ≡ false → (s && k && x && y) ≡ false
   second_false e = ap (λ b. b && x && y) (and_false s k e)
 
-  third_false : x ≡ false → (s && k && x && y) ≡ false
-  third_false e = ap (λ b. b && y) (and_false (s && k) x e)
 
 -- ---- the other party's created record with the same powers
 
@@ -48,18 +46,6 @@ module _ (by own status key : ℕ) (ps mark row : List ℕ) where
   not_key e =
       sym (second_false (eqb status created) (under_key (key_from own) rec) (not (eqb (get_or mark 0 0) by)) (same_powers row ps)
       (key_same key own ∙ e))
-
-  pub not_created : eqb status created ≡ false → false ≡ answers by (key_from own) ps rec
-  not_created e = rw e
-
-  pub not_other : get_or mark 0 0 ≡ by → false ≡ answers by (key_from own) ps rec
-  not_other e =
-      sym (third_false (eqb status created) (under_key (key_from own) rec) (not (eqb (get_or mark 0 0) by)) (same_powers row ps)
-      (ap not (eq-eqb (get_or mark 0 0) by e)))
-
-  pub by_powers : eqb key own ≡ true → eqb status created ≡ true → (get_or mark 0 0 ≡ by → ⊥) →
-      same_powers row ps ≡ answers by (key_from own) ps rec
-  by_powers e f g = rw (f, key_same key own ∙ e, ne_eqb (get_or mark 0 0) by g)
 
 -- one record more
 pub pairs_next : (cols : Columns) (i by own : ℕ) (ps : List ℕ) (a b : Bool) →

@@ -2,13 +2,16 @@
 use mathlib.Core.Path.{◌≡◌, refl, sym, ◌∙◌, ap}
 use mathlib.Core.Bool.{Bool, true, false, cond, ◌&&◌}
 use mathlib.Core.List.{List, [], ◌∷◌, ◌++◌, append_assoc, map, map-append}
-use Prim.Native.Nat.{ℕ, ◌+◌, ◌/◌, ◌%◌, ◌≤◌, ◌<◌}
+use Prim.Native.Nat.{ℕ, zero, suc, ◌+◌, ◌/◌, ◌%◌, ◌≤◌, ◌<◌}
 use native.Mathlib.Omega.{arith}
 use native.Mathlib.Numerals.{add-one}
 use lib.Dec.{eqb, leb, ltb}
 use lib.ListN.{length, get_or, drop, set, take, length-map}
 use lib.Seq.{drop-cons, set_at, take-suc, length-take-le}
+use Rattle.std.proofs.Math.Bool.{and_comm}
+use Rattle.lists.specs.Searches.{same}
 use Rattle.lists.specs.Tests.{all_below}
+use Rattle.lists.proofs.Places.{same_more}
 use Rattle.lists.specs.Sums.{sum_to}
 use Rattle.ledger.specs.Ledger.{moved_by}
 use Rattle.tables.specs.Tables.{Columns, record_in}
@@ -18,8 +21,15 @@ use Rattle.recording.specs.Recording.{gained_at, given_at}
 
 -- ---- tests and sums
 
-pub all_next : (f : ℕ → Bool) (i : ℕ) (b : Bool) → b ≡ all_below f i → (f i && b) ≡ all_below f (i + 1)
-all_next f i b e = rw (add-one i, e)
+-- the first n numbers of two rows are the same where each two are
+pub rows_same : (ps qs : List ℕ) (n : ℕ) → n ≤ length ps → n ≤ length qs →
+    same (take n ps) (take n qs) ≡ all_below (λ j. eqb (get_or ps j 0) (get_or qs j 0)) n
+unfolding same
+rows_same ps qs zero h k = refl
+rows_same ps qs (suc n) h k =
+    same_more ps qs n (omega arith) (omega arith)
+    ∙ and_comm (same (take n ps) (take n qs)) (eqb (get_or ps n 0) (get_or qs n 0))
+    ∙ ap (λ b. eqb (get_or ps n 0) (get_or qs n 0) && b) (rows_same ps qs n (omega arith) (omega arith))
 
 sum_next : (f : ℕ → ℕ) (i g w : ℕ) → g ≡ sum_to i f → w ≡ f i → g + w ≡ sum_to (i + 1) f
 sum_next f i g w e k = rw (add-one i, e, k)
@@ -80,15 +90,6 @@ module _ (cols : Columns) (market a s : ℕ) where
     given_here f g =
         given_next cols market a s i sum term (moved_by s (record_in cols i)) refl f
         (g ∙ sym (ap (λ b. cond (b && eqb (get_or cols.keys i 0 / 8 % 8) a) (moved_by s (record_in cols i)) 0) here))
-
--- ---- the power that a record moves
-
-module _ (q : Bool) (b c m n s p : ℕ) (e : b ≡ m) (f : c ≡ n) where
-  pub moved_there : (q && (leb b s && ltb s c)) ≡ true → p ≡ cond (q && (leb m s && ltb s n)) p 0
-  moved_there t = let u : (q && (leb m s && ltb s n)) ≡ true = rw (e, f) at t in rw u
-
-  pub moved_nothing : (q && (leb b s && ltb s c)) ≡ false → 0 ≡ cond (q && (leb m s && ltb s n)) p 0
-  moved_nothing t = let u : (q && (leb m s && ltb s n)) ≡ false = rw (e, f) at t in rw u
 
 -- ---- a buffer
 

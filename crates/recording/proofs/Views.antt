@@ -16,7 +16,7 @@ use Rattle.ledger.specs.Filing.{answers, pairs, changed}
 use Rattle.ledger.specs.Asking.{no_record, record_at}
 use Rattle.tables.specs.Tables.{Columns, key_from, down_from, record_in}
 use Rattle.tables.specs.Passing.{last_below}
-use Rattle.tables.specs.declared.loads.Found.TheVariants.{At, Nothing}
+use Rattle.std.specs.Prelude.{Some, None}
 use Rattle.recording.specs.Recording.{pairs_below, with_changes, Changed, gained_at, given_at}
 use Rattle.tables.proofs.Down.{down_same, down_map, down_sum, down_at, place_in, last_below_lem, down_place}
 
@@ -114,7 +114,7 @@ module _ (cols : Columns) where
   unfolding record_at
   place_view n id = down_place (λ r. eqb r.id id) (record_in cols) n
 
-  pub found_view : (n id i : ℕ) → last_below (λ j. eqb (get_or cols.ids j 0) id) n ≡ At i →
+  pub found_view : (n id i : ℕ) → last_below (λ j. eqb (get_or cols.ids j 0) id) n ≡ Some i →
       (record_at (down_from (record_in cols) n) id < n)
       × (get_or (down_from (record_in cols) n) (record_at (down_from (record_in cols) n) id) no_record ≡ record_in cols i)
   found_view n id i e =
@@ -124,6 +124,6 @@ module _ (cols : Columns) where
       let k : n - 1 - (n - 1 - i) ≡ i = omega arith in
       (omega arith, rw p (down_at (record_in cols) n (n - 1 - i) no_record h ∙ ap (record_in cols) k))
 
-  pub missing_view : (n id : ℕ) → last_below (λ j. eqb (get_or cols.ids j 0) id) n ≡ Nothing →
+  pub missing_view : (n id : ℕ) → last_below (λ j. eqb (get_or cols.ids j 0) id) n ≡ None →
       record_at (down_from (record_in cols) n) id ≡ n
   missing_view n id e = place_view n id ∙ ap (place_in n) e

@@ -5,8 +5,6 @@ use Rattle.ledger.specs.Ledger.{Rec, moved_by}
 use Rattle.ledger.specs.Filing.{answers, changed}
 use Rattle.tables.specs.Tables.{Columns, columns, key_from, record_in}
 use Rattle.tables.specs.More.{put_to, with_until}
-use Rattle.tables.specs.declared.loads.Found.{Found}
-use Rattle.tables.specs.declared.loads.Found.TheVariants.{At, Nothing}
 
 -- some record below n is answered by a filing
 unfoldable pub pairs_below : Columns → ℕ → ℕ → ℕ → List ℕ → Bool
@@ -55,8 +53,3 @@ given_at cols market a s i =
 -- an actor is ceder or acquirer of a key
 abbrev pub party_in : ℕ → ℕ → Bool
 party_in key a = eqb (key / 8 % 8) a || eqb (key % 8) a
-
--- where a record that was found stands, or 0
-abbrev pub found_at : Found → ℕ
-found_at (At i) = i
-found_at Nothing = 0

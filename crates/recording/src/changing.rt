@@ -10,9 +10,7 @@ ghost use Rattle.recording.specs.Recording.{ChangedAt, Changed};
 
 use crate::pairing::same_powers;
 use calendar::Clock;
-use lists::numbers::byte;
 use tables::records::{ANSWERED, CREATED, DELETED, OBSOLETE, UPDATED, VALIDATED};
-use tables::sizes::{size_marks, size_u8};
 
 // A record's status and until-step.
 #[derive(Clone, Copy)]
@@ -39,30 +37,27 @@ fn change_of(
 {
     let until = mark[2];
     if status == CREATED {
-        if byte(mark[0]) == by {
+        if u32::from(mark[0]) == by {
             return Change {
                 status: DELETED,
-                until: until,
+                until,
             };
         }
         if paired & same_powers(row, ps) {
             return Change {
                 status: ANSWERED,
-                until: until,
+                until,
             };
         }
-        return Change {
-            status: status,
-            until: until,
-        };
+        return Change { status, until };
     }
     if paired & (status == VALIDATED) {
         let day = own / 256;
         let first = clock.first_counted(day);
-        if clock.replaces_whole(byte(mark[1]), day) {
+        if clock.replaces_whole(u32::from(mark[1]), day) {
             return Change {
                 status: OBSOLETE,
-                until: until,
+                until,
             };
         }
         return Change {
@@ -70,19 +65,15 @@ fn change_of(
             until: first as u8,
         };
     }
-    Change {
-        status: status,
-        until: until,
-    }
+    Change { status, until }
 }
 
 // A mark with another until-step.
-fn with_until(mark: [u8; 4], until: u8) -> [u8; 4]
+fn with_until(mut mark: [u8; 4], until: u8) -> [u8; 4]
     ensures { (result ≡ with_until mark until) × (get_or result 2 0 ≡ until) }
 {
-    let mut next = mark;
-    next[2] = until;
-    next
+    mark[2] = until;
+    mark
 }
 
 // What a filing makes of record i: its status and until-step.
@@ -136,13 +127,8 @@ pub fn change_all(
         (columns statuses.old ids keys.now marks.old rows.now)
         statuses.new marks.new }
 {
-    // Lent as slices, the columns show that they have 256 places.
-    let all_statuses = size_u8(statuses);
-    let all_marks = size_marks(marks);
-    let mut j: u32 = 0;
-    while j < count {
-        let i = byte(places[j as usize]);
+    for place in &places[..count as usize] {
+        let i = u32::from(*place);
         change_at(statuses, keys, marks, rows, i, paired, clock, by, own, ps);
-        j += 1;
     }
 }

@@ -8,9 +8,8 @@ use lib.ListN.{length, get_or}
 use Rattle.lists.specs.Searches.{some, place_of}
 use Rattle.lists.specs.Sums.{sum_to, sum_over}
 use Rattle.tables.specs.Tables.{down_from}
-use Rattle.tables.specs.Passing.{last_below, is_at}
-use Rattle.tables.specs.declared.loads.Found.{Found}
-use Rattle.tables.specs.declared.loads.Found.TheVariants.{At, Nothing}
+use Rattle.tables.specs.Passing.{last_below}
+use Rattle.std.specs.Prelude.{Option, Some, None, is_some}
 
 -- ---- down_from
 
@@ -41,39 +40,39 @@ module _ {A : Type 0} where
 -- ---- last_below
 
 -- the place of what was found among n entries with the last first; past them where nothing was
-abbrev pub place_in : ℕ → Found → ℕ
-place_in n (At i) = n - 1 - i
-place_in n Nothing = n
+abbrev pub place_in : ℕ → Option ℕ → ℕ
+place_in n (Some i) = n - 1 - i
+place_in n None = n
 
-pub last_none : (p : ℕ → Bool) (n : ℕ) → n ≡ 0 → Nothing ≡ last_below p n
+pub last_none : (p : ℕ → Bool) (n : ℕ) → n ≡ 0 → None ≡ last_below p n
 unfolding last_below
 last_none p n e = rw e
 
-pub last_step : (p : ℕ → Bool) (i : ℕ) → 0 < i → last_below p i ≡ cond (p (i - 1)) (At (i - 1)) (last_below p (i - 1))
+pub last_step : (p : ℕ → Bool) (i : ℕ) → 0 < i → last_below p i ≡ cond (p (i - 1)) (Some (i - 1)) (last_below p (i - 1))
 unfolding last_below
 last_step p zero h = absurd (omega arith)
 last_step p (suc i) h =
-    let e : i ≡ suc i - 1 = omega arith in ap (λ j. cond (p j) (At j) (last_below p j)) e
+    let e : i ≡ suc i - 1 = omega arith in ap (λ j. cond (p j) (Some j) (last_below p j)) e
 
-pub last_hit : (p : ℕ → Bool) (i : ℕ) → 0 < i → p (i - 1) ≡ true → last_below p i ≡ At (i - 1)
-last_hit p i h e = last_step p i h ∙ ap (λ b. cond b (At (i - 1)) (last_below p (i - 1))) e
+pub last_hit : (p : ℕ → Bool) (i : ℕ) → 0 < i → p (i - 1) ≡ true → last_below p i ≡ Some (i - 1)
+last_hit p i h e = last_step p i h ∙ ap (λ b. cond b (Some (i - 1)) (last_below p (i - 1))) e
 
 pub last_skip : (p : ℕ → Bool) (i : ℕ) → 0 < i → p (i - 1) ≡ false → last_below p i ≡ last_below p (i - 1)
-last_skip p i h e = last_step p i h ∙ ap (λ b. cond b (At (i - 1)) (last_below p (i - 1))) e
+last_skip p i h e = last_step p i h ∙ ap (λ b. cond b (Some (i - 1)) (last_below p (i - 1))) e
 
 pub last_same : (p q : ℕ → Bool) (n : ℕ) → ((i : ℕ) → i < n → p i ≡ q i) → last_below p n ≡ last_below q n
 unfolding last_below
 last_same p q zero h = refl
 last_same p q (suc n) h =
-    ap₂ (λ b r. cond b (At n) r) (h n (omega arith)) (last_same p q n (λ i k. h i (omega arith)))
+    ap₂ (λ b r. cond b (Some n) r) (h n (omega arith)) (last_same p q n (λ i k. h i (omega arith)))
 
 -- what is found is below the bound and passes the test
-pub last_below_lem : (p : ℕ → Bool) (n i : ℕ) → last_below p n ≡ At i → (i < n) × (p i ≡ true)
+pub last_below_lem : (p : ℕ → Bool) (n i : ℕ) → last_below p n ≡ Some i → (i < n) × (p i ≡ true)
 unfolding last_below
 last_below_lem p zero i e = let z : ◌≡◌ {A = ℕ} 0 1 = cc in absurd (omega arith)
 last_below_lem p (suc n) i e = go (p n) refl e (last_below_lem p n i)
   where
-    go : (b : Bool) → p n ≡ b → cond b (At n) (last_below p n) ≡ At i → (last_below p n ≡ At i → (i < n) × (p i ≡ true)) →
+    go : (b : Bool) → p n ≡ b → cond b (Some n) (last_below p n) ≡ Some i → (last_below p n ≡ Some i → (i < n) × (p i ≡ true)) →
         (i < suc n) × (p i ≡ true)
     go true t e ih = let k : n ≡ i = cc in (omega arith, rw k at t)
     go false t e ih = let r = ih e in (omega arith, r.1)
@@ -82,13 +81,13 @@ last_below_lem p (suc n) i e = go (p n) refl e (last_below_lem p n i)
 
 module _ {A : Type 0} (p : A → Bool) (f : ℕ → A) where
   -- some entry passes the test where one is found
-  pub down_some : (n : ℕ) → some p (down_from f n) ≡ is_at (last_below (λ i. p (f i)) n)
+  pub down_some : (n : ℕ) → some p (down_from f n) ≡ is_some (last_below (λ i. p (f i)) n)
   unfolding last_below
   down_some zero = refl
   down_some (suc n) = go (p (f n)) (down_some n)
     where
-      go : (b : Bool) → some p (down_from f n) ≡ is_at (last_below (λ i. p (f i)) n) →
-          (b || some p (down_from f n)) ≡ is_at (cond b (At n) (last_below (λ i. p (f i)) n))
+      go : (b : Bool) → some p (down_from f n) ≡ is_some (last_below (λ i. p (f i)) n) →
+          (b || some p (down_from f n)) ≡ is_some (cond b (Some n) (last_below (λ i. p (f i)) n))
       go true e = refl
       go false e = e
 
@@ -98,8 +97,8 @@ module _ {A : Type 0} (p : A → Bool) (f : ℕ → A) where
   down_place zero = refl
   down_place (suc n) = go (p (f n)) (last_below (λ i. p (f i)) n) refl (down_place n)
     where
-      go : (b : Bool) (r : Found) → last_below (λ i. p (f i)) n ≡ r → place_of p (down_from f n) ≡ place_in n r →
-          cond b 0 (suc (place_of p (down_from f n))) ≡ place_in (suc n) (cond b (At n) r)
+      go : (b : Bool) (r : Option ℕ) → last_below (λ i. p (f i)) n ≡ r → place_of p (down_from f n) ≡ place_in n r →
+          cond b 0 (suc (place_of p (down_from f n))) ≡ place_in (suc n) (cond b (Some n) r)
       go true r t e = omega arith
-      go false (At i) t e = let k = last_below_lem (λ j. p (f j)) n i t in let h : i < n = k.0 in omega arith
-      go false Nothing t e = ap suc e
+      go false (Some i) t e = let k = last_below_lem (λ j. p (f j)) n i t in let h : i < n = k.0 in omega arith
+      go false None t e = ap suc e

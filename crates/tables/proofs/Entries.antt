@@ -1,18 +1,24 @@
 -- What the tables of actors and categories hold: as many entries as they have places, what a search finds, and one entry more.
-use mathlib.Core.Path.{◌≡◌, sym, ◌∙◌, ap}
-use mathlib.Core.Bool.{Bool, true, false}
+use mathlib.Core.Path.{◌≡◌, refl, sym, ◌∙◌, ap}
+use mathlib.Core.Bool.{Bool, cond}
 use mathlib.Core.List.{List, [], ◌∷◌, ◌++◌, map, map-append}
-use Prim.Native.Nat.{ℕ, suc, ◌+◌, ◌≤◌, ◌<◌, min}
+use Prim.Native.Nat.{ℕ, suc, ◌+◌, ◌<◌, min}
 use native.Mathlib.Omega.{arith}
-use lib.ListN.{length, get_or, take, set}
+use lib.Dec.{ltb}
+use lib.ListN.{length, take, set}
 use lib.Seq.{take-suc-set}
 use mir.Val.{Val}
 use denote.Laws.{Is}
-use Rattle.lists.specs.Searches.{same, place_of}
-use Rattle.lists.proofs.Places.{place_map, first_here, first_past, first_none}
+use borrow.Author.Tests.{ltb-false}
+use Rattle.std.specs.List.{position, position_or_len}
+use Rattle.std.specs.Option.{unwrap_or}
+use Rattle.std.specs.Prelude.{Option}
+use Rattle.std.proofs.lemmas.List.Recursion.{is_position_or_len}
+use Rattle.lists.specs.Searches.{place_of}
+use Rattle.lists.proofs.Places.{place_end}
+use Rattle.lists.proofs.Tests.{by_test}
 use Rattle.notification.specs.Forms.{category_text}
 use Rattle.ledger.specs.declared.Actor.{Actor}
-use Rattle.ledger.specs.Ledger.{actor_at, category_at}
 use Rattle.tables.specs.declared.actors.Actors.{Actors}
 use Rattle.tables.specs.declared.categories.Category.{Category}
 use Rattle.tables.specs.declared.categories.Categories.{Categories}
@@ -50,48 +56,15 @@ category_more x z n h =
     let f : Category → List ℕ = λ z. category_text z.text in
     ap (map f) (entry_more x.entries x.count 4 z n h) ∙ map-append f (take (min x.count 4) x.entries) (z ∷ [])
 
--- ---- searches: none of the entries before i is the one
+-- ---- searches
 
-abbrev no_actor : Actor
-no_actor = record { code = []; first = 0; last = 0 }
-
-module _ (x : Actors) (s : List ℕ) (n i : ℕ) (few : n ≡ min x.count 8) (l : length x.entries ≡ 8)
-    (none : i ≤ place_of (λ a. same a.code s) (take n x.entries)) where
-  pub actor_here : (b : Bool) → i < n → b ≡ same (get_or x.entries i no_actor).code s → b ≡ true → i ≡ actor_at (actors_in x) s
-  unfolding actors_in actor_at
-  actor_here b h e t =
-      rw (← few) (first_here (λ a. same a.code s) x.entries n i (omega arith) none no_actor h (sym e ∙ t))
-
-  pub actor_past : (b : Bool) → i < n → b ≡ same (get_or x.entries i no_actor).code s → b ≡ false →
-      i + 1 ≤ place_of (λ a. same a.code s) (take n x.entries)
-  actor_past b h e t =
-      first_past (λ a. same a.code s) x.entries n i (omega arith) none no_actor h (sym e ∙ t)
-
-  pub actor_none : n ≤ i → n ≡ actor_at (actors_in x) s
-  unfolding actors_in actor_at
-  actor_none h = rw (← few) (first_none (λ a. same a.code s) x.entries n i (omega arith) none h)
-
-abbrev no_category : Category
-no_category = record { text = [] }
-
-module _ (x : Categories) (s : List ℕ) (n i : ℕ) (few : n ≡ min x.count 4) (l : length x.entries ≡ 4)
-    (none : i ≤ place_of (λ z. same (category_text z.text) s) (take n x.entries)) where
-  pub category_here : (b : Bool) → i < n → b ≡ same (category_text (get_or x.entries i no_category).text) s → b ≡ true →
-      i ≡ category_at (categories_in x) s
-  unfolding categories_in category_at
-  category_here b h e t =
-      rw (← few)
-      (first_here (λ z. same (category_text z.text) s) x.entries n i (omega arith) none no_category h (sym e ∙ t)
-      ∙ place_map (λ z. category_text z.text) (λ z. same z s) (take n x.entries))
-
-  pub category_past : (b : Bool) → i < n → b ≡ same (category_text (get_or x.entries i no_category).text) s → b ≡ false →
-      i + 1 ≤ place_of (λ z. same (category_text z.text) s) (take n x.entries)
-  category_past b h e t =
-      first_past (λ z. same (category_text z.text) s) x.entries n i (omega arith) none no_category h (sym e ∙ t)
-
-  pub category_none : n ≤ i → n ≡ category_at (categories_in x) s
-  unfolding categories_in category_at
-  category_none h =
-      rw (← few)
-      (first_none (λ z. same (category_text z.text) s) x.entries n i (omega arith) none h
-      ∙ place_map (λ z. category_text z.text) (λ z. same z s) (take n x.entries))
+-- the place that std's search finds, or the number of entries
+pub place_found : {A : Type 0} (p : A → Bool) (xs : List A) (n : ℕ) (r : Option ℕ) → n ≡ length xs → r ≡ position p xs → unwrap_or r n ≡ place_of p xs
+unfolding place_of
+place_found p xs n r e f =
+    let first = is_position_or_len (place_of p) p refl (λ x xs. ap (cond (p x) 0) (omega arith)) xs in
+    let last = place_end p xs in
+    rw f
+    (by_test (ltb (position_or_len p xs) (length xs))
+    (λ t. rw t (sym first))
+    (λ t. rw t (omega (arith, ltb-false _ _ t))))

@@ -15,9 +15,8 @@ use Rattle.notification.specs.Forms.{places}
 use Rattle.ledger.specs.Ledger.{load_places, load_is, has_load, loaded, approved}
 use Rattle.tables.specs.Tables.{LoadColumns, down_from, load_number, load_from, load_in, loads_in}
 use Rattle.tables.specs.More.{load_put}
-use Rattle.tables.specs.Passing.{last_below, last_load, load_row, load_most, is_at}
-use Rattle.tables.specs.declared.loads.Found.{Found}
-use Rattle.tables.specs.declared.loads.Found.TheVariants.{At, Nothing}
+use Rattle.tables.specs.Passing.{last_below, last_load, load_row, load_most}
+use Rattle.std.specs.Prelude.{Option, Some, None, is_some}
 use Rattle.tables.proofs.Down.{down_length, down_same, down_some, last_same, last_hit, last_skip}
 
 -- ---- a load's number
@@ -57,7 +56,7 @@ is_number keys number i = eqb (get_or keys i 0) number
 
 module _ (keys : List ℕ) (number n i : ℕ) (more : 0 < i)
     (kept : last_below (is_number keys number) i ≡ last_below (is_number keys number) n) where
-  pub search_hit : get_or keys (i - 1) 0 ≡ number → At (i - 1) ≡ last_below (is_number keys number) n
+  pub search_hit : get_or keys (i - 1) 0 ≡ number → Some (i - 1) ≡ last_below (is_number keys number) n
   search_hit e = sym (last_hit (is_number keys number) i more (eq-eqb _ _ e)) ∙ kept
 
   pub search_skip : (get_or keys (i - 1) 0 ≡ number → ⊥) →
@@ -67,28 +66,28 @@ module _ (keys : List ℕ) (number n i : ℕ) (more : 0 < i)
 -- ---- what stands where a load was found
 
 module _ (powers : List ℕ) where
-  pub most_at : (f : Found) (i : ℕ) → i < 64 → f ≡ At i → get_or powers i 0 ≡ load_most powers f
+  pub most_at : (f : Option ℕ) (i : ℕ) → i < 64 → f ≡ Some i → get_or powers i 0 ≡ load_most powers f
   unfolding load_most
   most_at f i h e = rw (e, lt-ltb i 64 h)
 
-  pub most_past : (f : Found) (i : ℕ) → 64 ≤ i → f ≡ At i → 0 ≡ load_most powers f
+  pub most_past : (f : Option ℕ) (i : ℕ) → 64 ≤ i → f ≡ Some i → 0 ≡ load_most powers f
   unfolding load_most
   most_past f i h e = rw (e, le-ltb i 64 h)
 
-  pub most_nothing : (f : Found) → f ≡ Nothing → 0 ≡ load_most powers f
+  pub most_nothing : (f : Option ℕ) → f ≡ None → 0 ≡ load_most powers f
   unfolding load_most
   most_nothing f e = rw e
 
 module _ (rows : List (List ℕ)) where
-  pub row_found : (f : Found) (i : ℕ) → i < 64 → f ≡ At i → get_or rows i [] ≡ load_row rows f
+  pub row_found : (f : Option ℕ) (i : ℕ) → i < 64 → f ≡ Some i → get_or rows i [] ≡ load_row rows f
   unfolding load_row
   row_found f i h e = rw (e, lt-ltb i 64 h)
 
-  pub row_past : (f : Found) (i : ℕ) → 64 ≤ i → f ≡ At i → replicate 50 0 ≡ load_row rows f
+  pub row_past : (f : Option ℕ) (i : ℕ) → 64 ≤ i → f ≡ Some i → replicate 50 0 ≡ load_row rows f
   unfolding load_row
   row_past f i h e = rw (e, le-ltb i 64 h)
 
-  pub row_nothing : (f : Found) → f ≡ Nothing → replicate 50 0 ≡ load_row rows f
+  pub row_nothing : (f : Option ℕ) → f ≡ None → replicate 50 0 ≡ load_row rows f
   unfolding load_row
   row_nothing f e = rw e
 
@@ -108,11 +107,11 @@ module _ (n : ℕ) (cols : LoadColumns) (a z d : ℕ) (ha : a < 8) (hz : z < 4) 
   pub load_at : (i : ℕ) → load_is a z d (load_in cols i) ≡ is_number cols.keys (load_number a z d) i
   load_at i = number_parts (get_or cols.keys i 0) a z d ha hz
 
-  pub found_load : has_load (loads_in n cols) a z d ≡ is_at (last_load cols.keys n (load_number a z d))
+  pub found_load : has_load (loads_in n cols) a z d ≡ is_some (last_load cols.keys n (load_number a z d))
   unfolding has_load loads_in last_load
   found_load =
       down_some (load_is a z d) (load_in cols) (min n load_places)
-      ∙ ap is_at (last_same _ _ (min n load_places) (λ i h. load_at i))
+      ∙ ap is_some (last_same _ _ (min n load_places) (λ i h. load_at i))
 
   approved_below : (i : ℕ) → i ≤ 64 →
       approved (down_from (load_in cols) i) a z d

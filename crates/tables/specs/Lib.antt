@@ -2,3 +2,4 @@
 pub mod Tables
 pub mod Passing
 pub mod More
+pub mod Lent

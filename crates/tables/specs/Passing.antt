@@ -1,19 +1,12 @@
 -- What the functions that search and pass over the tables say of their results; they stand between code and contract.
-use Rattle.std.specs.Prelude.{◌≡◌, Bool, true, false, cond, List, [], ℕ, zero, suc, ◌+◌, ◌*◌, ◌/◌, ◌<◌, ◌≤◌, min, eqb, ltb, get_or, replicate}
+use Rattle.std.specs.Prelude.{◌≡◌, Bool, false, cond, List, [], ℕ, zero, suc, ◌+◌, ◌*◌, ◌/◌, ◌<◌, ◌≤◌, min, eqb, ltb, get_or, replicate, Option, Some, None}
 use Rattle.notification.specs.Forms.{places}
 use Rattle.ledger.specs.Ledger.{load_places}
-use Rattle.tables.specs.declared.loads.Found.{Found}
-use Rattle.tables.specs.declared.loads.Found.TheVariants.{At, Nothing}
 
 -- the last number below n that passes a test
-unfoldable pub last_below : (ℕ → Bool) → ℕ → Found
-last_below p zero = Nothing
-last_below p (suc n) = cond (p n) (At n) (last_below p n)
-
--- something was found
-abbrev pub is_at : Found → Bool
-is_at (At i) = true
-is_at Nothing = false
+unfoldable pub last_below : (ℕ → Bool) → ℕ → Option ℕ
+last_below p zero = None
+last_below p (suc n) = cond (p n) (Some n) (last_below p n)
 
 -- which of the n numbers from i on pass a test, a bit each and the first lowest
 unfoldable pub bits_from : (ℕ → Bool) → ℕ → ℕ → ℕ
@@ -38,16 +31,16 @@ pub record PlacesOf (test : ℕ → Bool) (n count : ℕ) (places : List ℕ) : 
 -- ---- loads and records
 
 -- the newest of n loads with a number, its row and its approved power
-unfoldable pub last_load : List ℕ → ℕ → ℕ → Found
+unfoldable pub last_load : List ℕ → ℕ → ℕ → Option ℕ
 last_load keys n number = last_below (λ i. eqb (get_or keys i 0) number) (min n load_places)
 
-unfoldable pub load_row : List (List ℕ) → Found → List ℕ
-load_row rows (At i) = cond (ltb i load_places) (get_or rows i []) (replicate places 0)
-load_row rows Nothing = replicate places 0
+unfoldable pub load_row : List (List ℕ) → Option ℕ → List ℕ
+load_row rows (Some i) = cond (ltb i load_places) (get_or rows i []) (replicate places 0)
+load_row rows None = replicate places 0
 
-unfoldable pub load_most : List ℕ → Found → ℕ
-load_most approved (At i) = cond (ltb i load_places) (get_or approved i 0) 0
-load_most approved Nothing = 0
+unfoldable pub load_most : List ℕ → Option ℕ → ℕ
+load_most approved (Some i) = cond (ltb i load_places) (get_or approved i 0) 0
+load_most approved None = 0
 
 -- record i is of the category and day that a market's number stands for
 abbrev pub in_market : List ℕ → ℕ → ℕ → Bool

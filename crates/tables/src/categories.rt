@@ -1,12 +1,12 @@
 // The enrolled categories, in the order of their enrolment.
-ghost use Rattle.std.specs.Prelude.{◌≡◌, ◌++◌, ◌∷◌, [], ◌<◌};
+ghost use Rattle.std.specs.Prelude.{◌≡◌, ◌++◌, ◌∷◌, [], ◌<◌, length};
 ghost use Rattle.lists.specs.Searches.{same};
 ghost use Rattle.notification.specs.Forms.{category_text};
 ghost use Rattle.ledger.specs.Ledger.{category_at};
 ghost use Rattle.tables.specs.More.{more_categories};
 ghost use Rattle.tables.specs.Tables.{categories_in};
 
-use lists::numbers::least;
+use crate::comparing::same_text;
 
 // The places for categories.
 pub const CATEGORIES: u32 = 4;
@@ -30,38 +30,29 @@ pub struct Categories {
 fn stands_for(c: [u8; 6], s: &[u8]) -> bool
     ensures { result ≡ same (category_text c) s.now }
 {
-    let five = c[5] == 0;
-    if five {
-        if s.len() != 5 {
-            return false;
-        }
-        return (c[0] == s[0])
-            & ((c[1] == s[1]) & ((c[2] == s[2]) & ((c[3] == s[3]) & (c[4] == s[4]))));
+    if c[5] == 0 {
+        return same_text(&c[..5], s);
     }
-    if s.len() != 6 {
-        return false;
-    }
-    (c[0] == s[0])
-        & ((c[1] == s[1]) & ((c[2] == s[2]) & ((c[3] == s[3]) & ((c[4] == s[4]) & (c[5] == s[5])))))
+    same_text(&c, s)
 }
 
 impl Categories {
+    // How many categories are enrolled.
+    pub fn len(self) -> u32
+        ensures { result ≡ length (categories_in self) }
+    {
+        self.count.min(CATEGORIES)
+    }
+
     // The place of a category; the number of categories where there is none.
     pub fn place(self, s: &[u8]) -> u32
         ensures { result ≡ category_at (categories_in self) s.now }
     {
-        let n = least(self.count, CATEGORIES);
-        let entries = self.entries;
-        let mut i: u32 = 0;
-        while i < n {
-            let e = entries[i as usize];
-            let c = e.text;
-            if stands_for(c, s) {
-                return i;
-            }
-            i += 1;
-        }
-        n
+        let n = self.count.min(CATEGORIES) as usize;
+        self.entries[..n]
+            .iter()
+            .position(|z| stands_for(z.text, s))
+            .unwrap_or(n) as u32
     }
 
     // The place of a category in six bytes.
@@ -75,15 +66,13 @@ impl Categories {
     }
 
     // One category more. The enrolment that passes has tried whether there is a place.
-    pub fn with(self, z: Category) -> Categories
+    pub fn with(mut self, z: Category) -> Categories
         requires { self.count < 4 }
         ensures { (categories_in result ≡ categories_in self ++ (category_text z.text ∷ []))
             × (result ≡ more_categories self z) }
     {
-        let mut next = self;
-        let at = self.count;
-        next.entries[at as usize] = z;
-        next.count = at + 1;
-        next
+        self.entries[self.count as usize] = z;
+        self.count += 1;
+        self
     }
 }

@@ -3,7 +3,7 @@
 
 pub mod actors;
 pub mod categories;
+pub mod comparing;
 pub mod loads;
 pub mod markets;
 pub mod records;
-pub mod sizes;

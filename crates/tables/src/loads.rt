@@ -4,18 +4,17 @@ ghost use Rattle.std.specs.Prelude.{◌≡◌, true, ◌<◌, ◌≤◌, ◌+◌
 ghost use Rattle.lists.specs.Searches.{every};
 ghost use Rattle.notification.specs.Forms.{in_places};
 ghost use Rattle.tables.specs.Tables.{load_number};
-ghost use Rattle.tables.specs.Passing.{is_at, bits_from, last_load, load_row, load_most};
-
-use lists::numbers::{least, wide};
+ghost use Rattle.tables.specs.Passing.{bits_from, last_load, load_row, load_most};
 
 // The places for loads.
 pub const LOADS: u32 = 64;
 
-// Where a load or a record stands.
+// The loads' columns, as they are read.
 #[derive(Clone, Copy)]
-pub enum Found {
-    At(u32),
-    Nothing,
+pub struct Loads<'a> {
+    pub numbers: &'a [u32; 64],
+    pub approved: &'a [u16; 64],
+    pub rows: &'a [[u16; 50]; 64],
 }
 
 // Actor, category and day of a load as one number: places and days in their ranges, so that no two have the same.
@@ -49,57 +48,40 @@ fn passes_four(keys: &[u32; 64], i: u32, number: u32) -> bool
 }
 
 // The newest of the first n loads with this number.
-pub fn last_of(keys: &[u32; 64], n: u32, number: u32) -> Found
+pub fn last_of(keys: &[u32; 64], n: u32, number: u32) -> Option<u32>
     ensures { result ≡ last_load keys.now n number }
 {
-    let mut i = least(n, LOADS);
-    while passes_four(keys, i, number) {
-        i -= 4;
+    let mut end = n.min(LOADS);
+    // By index: four are passed at once, from an end that need be no multiple of four.
+    while passes_four(keys, end, number) {
+        end -= 4;
     }
-    while 0 < i {
-        i -= 1;
+    for i in (0..end).rev() {
         if keys[i as usize] == number {
-            return Found::At(i);
+            return Some(i);
         }
     }
-    Found::Nothing
-}
-
-// Whether one was found.
-pub fn is_at(at: Found) -> bool
-    ensures { result ≡ is_at at }
-{
-    match at {
-        Found::At(_) => true,
-        Found::Nothing => false,
-    }
+    None
 }
 
 // The powers of a load that was found, or zeros.
-pub fn row_at(rows: &[[u16; 50]; 64], at: Found) -> [u16; 50]
+pub fn row_at(rows: &[[u16; 50]; 64], at: Option<u32>) -> [u16; 50]
     ensures { result ≡ load_row rows.now at }
 {
     match at {
-        Found::At(i) => {
-            if i < LOADS {
-                return rows[i as usize];
-            }
-            [0; 50]
-        }
-        Found::Nothing => [0; 50],
+        Some(i) if i < LOADS => rows[i as usize],
+        _ => [0; 50],
     }
 }
 
 // The approved power of a load that was found, or 0.
-pub fn approved_of(approved: &[u16; 64], at: Found) -> u32
+pub fn approved_of(approved: &[u16; 64], at: Option<u32>) -> u32
     ensures { (result ≡ load_most approved.now at) × (result ≤ 65535) }
 {
-    if let Found::At(i) = at {
-        if i < LOADS {
-            return wide(approved[i as usize]);
-        }
+    match at {
+        Some(i) if i < LOADS => u32::from(approved[i as usize]),
+        _ => 0,
     }
-    0
 }
 
 // Powers in their places, with 0 past them. A load that passes 10 has no more than a day's steps, each below 10,000.
@@ -108,11 +90,8 @@ pub fn in_places(powers: &[u32]) -> [u16; 50]
     ensures { result ≡ in_places powers.now }
 {
     let mut row = [0u16; 50];
-    let mut i: usize = 0;
-    while i < powers.len() {
-        let p = powers[i];
-        row[i] = p as u16;
-        i += 1;
+    for (i, p) in powers.iter().enumerate() {
+        row[i] = *p as u16;
     }
     row
 }

@@ -19,6 +19,15 @@ pub const UPDATED: u8 = b'P';
 
 pub const OBSOLETE: u8 = b'O';
 
+// The records' columns but for their ids, as they are read.
+#[derive(Clone, Copy)]
+pub struct Records<'a> {
+    pub statuses: &'a [u8; 256],
+    pub keys: &'a [u32; 256],
+    pub marks: &'a [[u8; 4]; 256],
+    pub rows: &'a [[u16; 50]; 256],
+}
+
 // Ceder, acquirer, category and day of a key as one number: places and days in their ranges, so that no two keys have
 // the same.
 pub fn key_number(ceder: u32, acquirer: u32, category: u32, day: u32) -> u32

@@ -1,5 +1,5 @@
 -- Each step passed has the power gained and given; no step has moved by more than one power.
-use Rattle.std.proofs.Common.{◌≡◌, ℕ, ◌+◌, ◌-◌, ◌<◌, ◌≤◌, Bool, cond, ◌&&◌, ltb, leb, List, [], length, get_or}
+use Rattle.std.proofs.Common.{◌≡◌, ℕ, ◌+◌, ◌<◌, ◌≤◌, Bool, cond, ◌&&◌, ltb, leb, List, length, get_or}
 use Rattle.judging.proofs.nets.apply_in_span.Given as goal
 
 -- what is so of a step and the number there before step s is reached
@@ -14,7 +14,4 @@ Applying net row gains gives from till s j x =
 
 abbrev pub invariant-loop-s : goal.invariant-loop-s
 invariant-loop-s l =
-    (l.s ≤ 50) × (length l.net ≡ 50) × ((j : ℕ) → Applying l.initial.net (get_or l.rows l.i []) l.gains l.gives l.from l.till l.s j (get_or l.net j 0))
-
-abbrev pub decreases-loop-s : goal.decreases-loop-s
-decreases-loop-s l = 50 - l.s
+    (length l.net ≡ 50) × ((j : ℕ) → Applying l.initial.net l.row l.gains l.gives l.from l.till l.s j (get_or l.net j 0))

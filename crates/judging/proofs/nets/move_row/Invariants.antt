@@ -1,5 +1,5 @@
 -- Each step passed has the row's power gained or given, and the others are what they were.
-use Rattle.std.proofs.Common.{◌≡◌, ℕ, ◌+◌, ◌-◌, ◌<◌, ◌≤◌, Bool, cond, List, [], length, get_or}
+use Rattle.std.proofs.Common.{◌≡◌, ℕ, ◌+◌, ◌<◌, ◌≤◌, Bool, cond, List, length, get_or}
 use Rattle.judging.proofs.nets.move_row.Given as goal
 
 -- what is so of a step and the number there before step s is reached
@@ -10,7 +10,4 @@ Moving net gains row s j x =
 
 abbrev pub invariant-loop-s : goal.invariant-loop-s
 invariant-loop-s l =
-    (l.s ≤ 50) × (length l.net ≡ 50) × ((j : ℕ) → Moving l.initial.net l.gains (get_or l.rows l.i []) l.s j (get_or l.net j 0))
-
-abbrev pub decreases-loop-s : goal.decreases-loop-s
-decreases-loop-s l = 50 - l.s
+    (length l.net ≡ 50) × ((j : ℕ) → Moving l.initial.net l.gains l.row l.s j (get_or l.net j 0))

@@ -6,7 +6,7 @@ use Rattle.judging.proofs.passing.pass_records.Given as goal
 abbrev pub invariant-loop-k : goal.invariant-loop-k
 invariant-loop-k l =
     (l.i ≤ l.n)
-    × PassedTo l.statuses l.keys l.marks l.rows l.own l.first l.until l.initial.ceder l.initial.acquirer l.i
+    × PassedTo l.records.statuses.now l.records.keys.now l.records.marks.now l.records.rows.now l.own l.first l.until l.initial.ceder l.initial.acquirer l.i
     (record { ceder = l.ceder; acquirer = l.acquirer; places = l.places; count = l.count })
 
 abbrev pub decreases-loop-k : goal.decreases-loop-k

@@ -26,7 +26,7 @@ loop-k-preserved c =
     let l = c.loop-k in
     let p = c.run_end-stop.ensures c.if-stop-k.false in
     let w : LineAt a.body.now l.at (six_at times_text l.i) (six_at times_text (l.i + 6)) _ _ =
-    rw c.in-Is.is at c.good_line-line.ensures in
+    c.in-Some.ensures in
     let r =
     good_on a.steps a.t.lines c.run_end-stop.result p c.requires.0 a.body.now l.k l.i l.at _ _ l.invariant.1
     c.loop-k-test.true l.invariant.3 w a.from _ a.t l.powers l.invariant.0 l.invariant.5 in

@@ -4,7 +4,8 @@ use mathlib.Core.List.{List}
 use Prim.Native.Nat.{ℕ}
 use native.Mathlib.Omega.{arith}
 use Rattle.lists.specs.Sums.{sum_to}
-use Rattle.tables.specs.Tables.{Columns, columns}
+use Rattle.tables.specs.Lent.{columns_of}
+use Rattle.tables.specs.Tables.{Columns}
 use Rattle.tables.specs.Passing.{in_market}
 use Rattle.tables.proofs.Fours.{next_is}
 use Rattle.recording.specs.Recording.{gained_at, given_at}
@@ -18,15 +19,15 @@ pub loop-k-smaller : goal.loop-k-smaller
 loop-k-smaller c =
     let q = c.loop-k in
     let p = c.args in
-    omega (arith, (next_is (in_market p.keys.now p.market) q.i p.n c.next_of-k.result q.invariant.0 c.requires.0 c.next_of-k.ensures).from)
+    omega (arith, (next_is (in_market p.records.keys.now p.market) q.i p.n c.next_of-k.result q.invariant.0 c.requires.0 c.next_of-k.ensures).from)
 
 pub loop-k-preserved : goal.loop-k-preserved
 loop-k-preserved c =
     let q = c.loop-k in
     let p = c.args in
-    let cols : List ℕ → Columns = λ ids. columns p.statuses.now ids p.keys.now p.marks.now p.rows.now in
+    let cols : List ℕ → Columns = λ ids. columns_of p.records ids in
     let k = c.next_of-k.result in
-    let next = next_is (in_market p.keys.now p.market) q.i p.n k q.invariant.0 c.requires.0 c.next_of-k.ensures in
+    let next = next_is (in_market p.records.keys.now p.market) q.i p.n k q.invariant.0 c.requires.0 c.next_of-k.ensures in
     let gained : (ids : List ℕ) → q.gained ≡ sum_to k (gained_at (cols ids) p.market p.actor p.s) =
     λ ids.
     gained_through (cols ids) p.market p.actor p.s q.i k q.gained next.from next.before (q.invariant.3 ids) in
@@ -40,19 +41,19 @@ loop-k-preserved c =
       omega (arith, c.moved_where-given.ensures.1),
       (λ ids.
           gained_here (cols ids) p.market p.actor p.s k q.gained _ here (gained ids)
-          (c.moved_where-gained.ensures.0 ids p.keys.now)),
+          (c.moved_where-gained.ensures.0 ids)),
       (λ ids.
           given_here (cols ids) p.market p.actor p.s k q.given _ here (given ids)
-          (c.moved_where-given.ensures.0 ids p.keys.now)),
+          (c.moved_where-given.ensures.0 ids)),
     )
 
 pub returns : goal.returns
 returns c =
     let q = c.loop-k in
     let p = c.args in
-    let cols : List ℕ → Columns = λ ids. columns p.statuses.now ids p.keys.now p.marks.now p.rows.now in
+    let cols : List ℕ → Columns = λ ids. columns_of p.records ids in
     let k = c.next_of-k.result in
-    let next = next_is (in_market p.keys.now p.market) q.i p.n k q.invariant.0 c.requires.0 c.next_of-k.ensures in
+    let next = next_is (in_market p.records.keys.now p.market) q.i p.n k q.invariant.0 c.requires.0 c.next_of-k.ensures in
     let gained : (ids : List ℕ) → q.gained ≡ sum_to k (gained_at (cols ids) p.market p.actor p.s) =
     λ ids.
     gained_through (cols ids) p.market p.actor p.s q.i k q.gained next.from next.before (q.invariant.3 ids) in

@@ -1,13 +1,12 @@
 -- `loads::row_at` meets its contract: each arm of the match knows what was found.
-use native.Mathlib.Omega.{arith}
 use Rattle.tables.proofs.LoadTable.{row_found, row_past, row_nothing}
 use Rattle.tables.proofs.loads.row_at.Goals as goal
 
-pub returns-then-i-lt-LOADS : goal.returns-then-i-lt-LOADS
-returns-then-i-lt-LOADS c = row_found _ _ _ (omega arith) c.in-At.is
+pub returns-in-Some : goal.returns-in-Some
+returns-in-Some c = row_found _ _ _ c.if-i-lt-LOADS.true c.in-Some.is
 
-pub returns-else-i-lt-LOADS : goal.returns-else-i-lt-LOADS
-returns-else-i-lt-LOADS c = row_past _ _ _ (omega arith) c.in-At.is
+pub returns-in_default : goal.returns-in_default
+returns-in_default c = row_past _ _ _ c.if-i-lt-LOADS.false c.in-Some.is
 
-pub returns-in-Nothing : goal.returns-in-Nothing
-returns-in-Nothing c = row_nothing _ _ c.in-Nothing.is
+pub returns-in_default-2 : goal.returns-in_default-2
+returns-in_default-2 c = row_nothing _ _ c.in_default.is

@@ -15,6 +15,3 @@ decreases-loop-k l = l.last - l.k
 abbrev pub invariant-loop-k-2 : goal.invariant-loop-k-2
 invariant-loop-k-2 l =
     (l.k ≤ l.last) × (first_from (in_market l.keys l.market) l.i (min l.n 256 - l.i) ≡ first_from (in_market l.keys l.market) l.k (l.last - l.k))
-
-abbrev pub decreases-loop-k-2 : goal.decreases-loop-k-2
-decreases-loop-k-2 l = l.last - l.k

@@ -22,9 +22,9 @@ whole_line-whole-requires c =
 pub returns-then-piece-end : goal.returns-then-piece-end
 returns-then-piece-end c =
     let a = c.args in
-    line_grown a.self a.total a.piece.now c.whole_line-whole.result.text c.first_bytes-next.result c.byte_from-end.result
+    line_grown a.self a.total a.piece.now c.whole_line-whole.result.text c.first_bytes.result c.byte_from-end.result
     c.whole_line-whole.result.length c.byte_from-end.ensures c.if-piece-end.true c.whole_line-whole.ensures.text_value
-    c.whole_line-whole.ensures.length_value c.first_bytes-next.ensures
+    c.whole_line-whole.ensures.length_value c.first_bytes.ensures
 
 pub returns : goal.returns
 returns c =
