@@ -111,21 +111,21 @@ fn run<F: Fn(usize, usize) -> Power>(
     if is_over(t, steps) | (steps < FEWEST_STEPS) {
         return Stepped { tally: t, at: from };
     }
-    let mut lines = t.lines;
-    let stop = run_end(steps, lines);
-    let mut i = half_hours(steps, lines) as usize * 10;
+    let mut lines = t.lines as usize;
+    let stop = run_end(steps, t.lines) as usize;
+    let mut i = half_hours(steps, t.lines) as usize * 10;
     let mut at = from;
     for k in lines..stop {
         let Power::Is(power, n) = front(at, i) else {
             break;
         };
-        powers[k as usize] = power;
+        powers[k] = power;
         at += n;
         i += 10;
         lines = k + 1;
     }
     let tally = Tally {
-        lines,
+        lines: lines as u32,
         fault: 0,
         place: t.place,
     };

@@ -24,11 +24,12 @@ pub(crate) fn past_blanks(s: &[u8], at: usize) -> usize
     let rest = &s[at..];
     at + rest
         .iter()
-        .position(|b| !is_blank(*b))
+        .position(|b| *b != b' ' && !is_blank(*b))
         .unwrap_or(rest.len())
 }
 
 // Whether a text stands at a place.
+#[inline(always)]
 pub(crate) fn stands(s: &[u8], at: usize, text: &[u8]) -> bool
     requires { (at ≤ length s.now) × (1 ≤ length text.now) }
     ensures { result ≡ starts_with text.now (drop at s.now) }
@@ -40,6 +41,7 @@ pub(crate) fn stands(s: &[u8], at: usize, text: &[u8]) -> bool
 }
 
 // The place after the token that is a byte by itself.
+#[inline(always)]
 pub(crate) fn after_mark(s: &[u8], at: usize, b: u8) -> Option<usize>
     requires { (at ≤ length s.now) × (is_mark b ≡ true) }
     ensures walked { WalkSays (is (b ∷ []) ∷ []) s.now at result }
@@ -54,6 +56,7 @@ pub(crate) fn after_mark(s: &[u8], at: usize, b: u8) -> Option<usize>
 }
 
 // The place after the token that is a quoted text.
+#[inline(always)]
 pub(crate) fn after_text(s: &[u8], at: usize, text: &[u8]) -> Option<usize>
     requires { (at ≤ length s.now) × (is_quoted text.now ≡ true) }
     ensures walked { WalkSays (is text.now ∷ []) s.now at result }
@@ -79,6 +82,7 @@ pub(crate) fn is_framed(s: &[u8], from: usize, n: usize) -> bool
 }
 
 // The first place of a member's value after its name: past a colon.
+#[inline(always)]
 pub(crate) fn value_at(s: &[u8], at: usize) -> Option<usize>
     requires { at ≤ length s.now }
     ensures opened { OpenSays (is (58 ∷ []) ∷ []) s.now at result }

@@ -36,6 +36,7 @@ pub(crate) fn eight_at(s: &[u8], p: usize, t: &[u8], q: usize) -> bool
 }
 
 // Whether a text stands at a place that has room for it.
+#[inline(always)]
 pub(crate) fn same_text(s: &[u8], at: usize, text: &[u8]) -> bool
     requires { at + length text.now ≤ length s.now }
     ensures { result

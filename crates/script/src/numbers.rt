@@ -77,13 +77,13 @@ fn near_number(line: &[u8], from: usize) -> Option<Numeral>
     if 9 < value {
         return None;
     }
+    if value == 0 {
+        return ended_number(line, from, value, from + 1);
+    }
     for end in from + 1..from + 5 {
         let digit = digit_value(line[end]);
         if 9 < digit {
             return ended_number(line, from, value, end);
-        }
-        if value == 0 {
-            return None;
         }
         value = value * 10 + digit;
     }

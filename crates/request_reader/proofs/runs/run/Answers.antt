@@ -2,7 +2,7 @@
 use mathlib.Core.Path.{refl}
 use native.Mathlib.Omega.{arith}
 use Rattle.request_reader.proofs.StepRuns.{onward_refl}
-use Rattle.request_reader.proofs.RunLoops.{run_start, run_entries, run_more}
+use Rattle.request_reader.proofs.RunLoops.{run_start, run_entries, run_more, within_day}
 use Rattle.request_reader.proofs.RunStarts.{may_run}
 use Rattle.request_reader.proofs.runs.run.Goals as goal
 
@@ -66,6 +66,13 @@ loop-k-preserved g c =
     let says = (c.requires.fronts l.at l.i l.invariant.1.within (rw c.requires.known.2 e.0) (rw c.requires.known.2 e.1)).1 _ c.front.ensures in
     let w = rw (c.in-Is.is, c.requires.known.2) at says in
     (refl, run_more a.steps a.t.lines c.run_end-stop.result a.s.now a.from _ p _ _ _ _ l.invariant.1 h m.2 c.requires.known.1 _ _ w)
+
+pub overflow_cast-tally : goal.overflow_cast-tally
+overflow_cast-tally g c =
+    let i = c.loop-k.invariant in
+    let m = may_run c.args.steps c.args.t _ c.is_over.ensures c.if-is_over-steps.false in
+    let e = within_day c.args.t.lines _ i.1.on (λ h. omega (arith, i.1.upto h, c.requires.known.1, (c.run_end-stop.ensures (omega (arith, h, i.1.upto h))).within)) (omega (arith, m.0, c.requires.known.1)) in
+    omega (arith, e, i.0)
 
 pub returns : goal.returns
 returns g c =

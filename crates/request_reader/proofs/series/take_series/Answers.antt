@@ -47,16 +47,15 @@ returns-in_err-step c =
 
 pub steps_run-run-requires : goal.steps_run-run-requires
 unfolding label_list
-steps_run-run-requires c =
-    (
-      c.in_ok-step.ensures.told.walked.within,
-      c.requires.2,
-      refl,
-      elim c.if-lead-at.branch [
-        | then-lead-at w ↦ rw w.layout-is (laid_for c.args.s.now _ _ (c.loop-step.invariant.goes w.if-lead-at.true).1 _ c.in_ok-step.ensures.laid_out)
-        | else-lead-at w ↦ rw w.layout-is (λ l e. absurd (none-some l e))
-      ],
-    )
+steps_run-run-requires c = (
+  c.in_ok-step.ensures.told.walked.within,
+  c.requires.2,
+  refl,
+  elim c.if-lead-at.branch [
+    | then-lead-at w ↦ rw w.layout-is (laid_for c.args.s.now _ _ (c.loop-step.invariant.goes w.if-lead-at.true).1 _ c.in_ok-step.ensures.laid_out)
+    | else-lead-at w ↦ rw w.layout-is (λ l e. absurd (none-some l e))
+  ],
+)
 
 -- what is kept after the steps taken at once
 told : (c : After-steps_run-run)
