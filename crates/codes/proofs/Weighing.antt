@@ -2,13 +2,13 @@
 use mathlib.Core.Path.{◌≡◌}
 use mathlib.Core.Bool.{true, false, not, ◌&&◌}
 use mathlib.Core.List.{List}
-use Prim.Native.Nat.{ℕ, zero, suc, ◌+◌, ◌-◌, ◌*◌, ◌%◌, ◌≤◌, ◌<◌}
+use Prim.Native.Nat.{ℕ, zero, suc, ◌+◌, ◌-◌, ◌*◌, ◌≤◌, ◌<◌}
 use native.Mathlib.Nat.{mul-le-mul}
 use native.Mathlib.Numerals.{add-one}
 use native.Mathlib.Omega.{arith}
 use lib.Dec.{leb, eqb}
 use lib.ListN.{get_or}
-use borrow.Author.Tests.{leb-true, eq-eqb, ne_eqb}
+use borrow.Author.Tests.{leb-true}
 use Rattle.lists.specs.Sums.{sum_to}
 use Rattle.lists.proofs.Tests.{by_test, both_true}
 use Rattle.notification.specs.Forms.{is_digit}
@@ -53,12 +53,6 @@ pub weighed_more : (s : List ℕ) (i sum v : ℕ) → sum ≡ sum_to i (weighed_
 weighed_more s i sum v e f = rw (add-one i, e, f)
 
 -- ---- the value that the sixteenth must have
-
-pub value_of_none : (sum : ℕ) → sum ≡ 0 → 0 ≡ check_value sum
-value_of_none sum e = rw (eq-eqb sum 0 e)
-
-pub value_of_sum : (sum : ℕ) → (sum ≡ 0 → ⊥) → 36 - (sum - 1) % 37 ≡ check_value sum
-value_of_sum sum h = rw (ne_eqb sum 0 h)
 
 -- ---- the test
 

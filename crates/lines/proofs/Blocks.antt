@@ -8,19 +8,23 @@ use contract.Lifetimes
 use Rattle.std.proofs.Common.{◌≡◌, ℕ, suc, ◌+◌, ◌<◌, ◌≤◌, Bool, true, false, List, [], ◌∷◌, ◌++◌, length, take, drop, refl, ap, ◌∙◌}
 use lib.Seq.{sets}
 use Rattle.notification.specs.Reading.{lines_in, read_file}
-use Rattle.notification.specs.declared.Reading.{Reading}
+use Rattle.std.specs.Prelude.{Option, Some, None, MatchOption}
+use Rattle.session.specs.Lines.{Reading}
 use Rattle.reader.specs.InHand.{joined_pieces}
 use Rattle.reader.specs.declared.pieces.FileReader.{FileReader}
 use Rattle.reader.proofs.InPieces.{Fed, Ends, read_in_pieces}
-use Rattle.tables.specs.Tables.{Columns, LoadColumns, columns, load_columns}
+use Rattle.tables.specs.Tables.{Columns, LoadColumns}
 use Rattle.register.specs.View.{Register, lent, held}
 use Rattle.register.specs.declared.Fresh.{Fresh}
 use Rattle.register.proofs.Runs.{Begun}
 use Rattle.script.specs.Spans.{cut}
+use Rattle.session.specs.Lines.{File}
+use Rattle.session.specs.Stores.{register_in}
 use Rattle.lines.specs.Scripts.{Files, Found}
 use Rattle.lines.specs.Walking.{held_of, ended, ended_at, Walked, stands, walk, NamedIf}
 use Rattle.lines.specs.declared.answering.Wants.{Wants}
-use Rattle.lines.specs.declared.answering.Wants.TheVariants.{Input, File}
+use Rattle.lines.specs.declared.answering.Wants.TheVariants as Want
+use Rattle.lines.specs.declared.answering.Wants.TheVariants.{Input}
 use Rattle.lines.specs.declared.answering.Progress.{Progress}
 use Rattle.lines.specs.contracts.answering.answer_lines as answer-fn
 use Rattle.lines.proofs.answering.answer_lines.Kinds as answer-kinds
@@ -44,25 +48,19 @@ pub data Ended : List ℕ → ℕ → ℕ → List ℕ → Type 1 where
   ends : (κs : Lifetimes.Lfts 1) (a : World.ArgsD end-fn.signature κs) (m : ℕ) (s : Clauses.AtExit (Kinds.ended_of 1 end-kinds.ps end-kinds.r) κs) →
       (end_reads.Asked κs a → end_reads.Post κs a m s) → Ended a.0.now a.1.0 m s.0.now
 
--- `answer_lines`: whether a file is given, what was found, the input, and how far the lines were before and after
-pub data Went : Bool → Bool → Reading → List ℕ → Walked → Walked → Type 1 where
-  goes : (κs : Lifetimes.Lfts 10) (a : World.ArgsD answer-fn.signature κs) (y : Progress) (s : Clauses.AtExit (Kinds.ended_of 10 answer-kinds.ps answer-kinds.r) κs) →
+-- `answer_lines`: what is given of the first file, the input, and how far the lines were before and after
+pub data Went : Option File → List ℕ → Walked → Walked → Type 1 where
+  goes : (κs : Lifetimes.Lfts 3) (a : World.ArgsD answer-fn.signature κs) (y : Progress) (s : Clauses.AtExit (Kinds.ended_of 3 answer-kinds.ps answer-kinds.r) κs) →
       (answer-reads.Asked κs a → answer-reads.Post κs a y s) →
-      Went a.1.1.1.1.1.1.1.1.1.1.1.1.1.1.0 a.1.1.1.1.1.1.1.1.1.1.1.1.1.1.1.0 a.1.1.1.1.1.1.1.1.1.1.1.1.1.1.1.1.0 a.1.1.1.1.1.1.1.1.1.1.0.now
-      (stands
-      (lent a.0 (columns a.1.0.now a.1.1.0.now a.1.1.1.0.now a.1.1.1.1.0.now a.1.1.1.1.1.0.now)
-      (load_columns a.1.1.1.1.1.1.0.now a.1.1.1.1.1.1.1.0.now a.1.1.1.1.1.1.1.1.0.now))
-      a.1.1.1.1.1.1.1.1.1.0 a.1.1.1.1.1.1.1.1.1.1.1.0 a.1.1.1.1.1.1.1.1.1.1.1.1.0.now a.1.1.1.1.1.1.1.1.1.1.1.1.1.0 Input)
-      (stands
-      (lent y.head (columns s.1.0.now s.1.1.0.now s.1.1.1.0.now s.1.1.1.1.0.now s.1.1.1.1.1.0.now)
-      (load_columns s.1.1.1.1.1.1.0.now s.1.1.1.1.1.1.1.0.now s.1.1.1.1.1.1.1.1.0.now))
-      y.number y.at s.1.1.1.1.1.1.1.1.1.1.1.1.0.now y.out y.wants)
+      Went a.1.1.1.1.1.1.0 a.1.1.0.now
+      (stands (register_in a.0.now) a.1.0 a.1.1.1.0 a.1.1.1.1.0.now a.1.1.1.1.1.0 Input)
+      (stands (register_in s.0.now) y.number y.at s.1.1.1.1.0.now y.out y.wants)
 
 -- WHAT EACH OF THEM ASKS ALWAYS HOLDS
 pub record AsksNothing : Type 1 where
   pub hold : (κs : Lifetimes.Lfts 1) (a : World.ArgsD hold-fn.signature κs) → hold-reads.Asked κs a
   pub end_line : (κs : Lifetimes.Lfts 1) (a : World.ArgsD end-fn.signature κs) → end_reads.Asked κs a
-  pub answer_lines : (κs : Lifetimes.Lfts 10) (a : World.ArgsD answer-fn.signature κs) → answer-reads.Asked κs a
+  pub answer_lines : (κs : Lifetimes.Lfts 3) (a : World.ArgsD answer-fn.signature κs) → answer-reads.Asked κs a
 
 pub asks_nothing : AsksNothing
 asks_nothing = record { hold = λ κs a. tt; end_line = λ κs a. tt; answer_lines = λ κs a. tt }
@@ -104,14 +102,15 @@ abbrev pub writes : Standing → Standing
 writes s =
     record { register = s.register; number = s.number; input = s.input; at = s.at; end = s.end; output = s.output; out = 0; wants = s.wants; written = s.written ++ take s.out s.output }
 
--- a reading of the file that is found under a name, where it can be read
-abbrev pub Reads : Reading → List ℕ → Found → Type 0
-Reads reading name there = there.readable ≡ true → reading ≡ read_file name there.body
+-- what the file that is found under a name is read as, where it can be read
+abbrev pub Reads : File → List ℕ → Found → Type 0
+Reads file name there =
+    MatchOption file (there.readable ≡ false) (λ reading. (there.readable ≡ true) × (reading ≡ read_file name there.body))
 
--- one that the reader's functions give, begun with the name, fed its bytes as they come, in pieces cut anywhere, and ended, is such a reading
+-- what the reader's functions give, begun with the name, fed its bytes as they come, in pieces cut anywhere, and ended, is what such a file is read as
 pub pieces_read : {reading : Reading} {name : List ℕ} {there : Found} {ps : List (List ℕ)} {b : FileReader} → Fed name ps b → Ends b reading →
-    joined_pieces ps ≡ there.body → Reads reading name there
-pieces_read {name = name} f e j h = read_in_pieces f e ∙ ap (read_file name) j
+    joined_pieces ps ≡ there.body → there.readable ≡ true → Reads (Some reading) name there
+pieces_read {name = name} f e j h = (h, read_in_pieces f e ∙ ap (read_file name) j)
 
 -- A RUN over blocks, and whether the input has ended. `files` is what is found for the line of a number, by the name that it has
 pub data Ran (files : Files) : List (List ℕ) → Bool → Standing → Type 1 where
@@ -122,22 +121,22 @@ pub data Ran (files : Files) : List (List ℕ) → Bool → Standing → Type 1 
   fed : {bs : List (List ℕ)} {s : Standing} → Ran files bs false s → s.wants ≡ Input →
       (n : ℕ) (front : List ℕ) → Held s.input s.at s.end n front →
       (b input : List ℕ) → take (n + length b) input ≡ take n front ++ b → length input ≡ length front →
-      (readable : Bool) (reading : Reading) (w : Walked) → Went false readable reading (take (n + length b) input) (walked (reads s input (n + length b))) w →
+      (w : Walked) → Went None (take (n + length b) input) (walked (reads s input (n + length b))) w →
       Ran files (bs ++ b ∷ []) false (further (reads s input (n + length b)) w)
-  -- a file is wanted, and what is found of it is given: whether it can be read, and what it was read as
-  found : {bs : List (List ℕ)} {e : Bool} {s : Standing} → Ran files bs e s → (from to : ℕ) → s.wants ≡ File from to →
-      (reading : Reading) → Reads reading (cut (block s) from to) (files (suc s.number) (cut (block s) from to)) →
-      (w : Walked) → Went true (files (suc s.number) (cut (block s) from to)).readable reading (block s) (walked s) w →
+  -- a file is wanted, and what it was read as is given, where it can be read
+  found : {bs : List (List ℕ)} {e : Bool} {s : Standing} → Ran files bs e s → (from to : ℕ) → s.wants ≡ Want.File from to →
+      (file : File) → Reads file (cut (block s) from to) (files (suc s.number) (cut (block s) from to)) →
+      (w : Walked) → Went (Some file) (block s) (walked s) w →
       Ran files bs e (further s w)
   -- the answers that wait are written
   wrote : {bs : List (List ℕ)} {e : Bool} {s : Standing} → Ran files bs e s → Ran files bs e (writes s)
   -- the lines go on
   went : {bs : List (List ℕ)} {e : Bool} {s : Standing} → Ran files bs e s →
-      (readable : Bool) (reading : Reading) (w : Walked) → Went false readable reading (block s) (walked s) w → Ran files bs e (further s w)
+      (w : Walked) → Went None (block s) (walked s) w → Ran files bs e (further s w)
   -- more input is wanted, and there is none: what is held is the last line
   closed : {bs : List (List ℕ)} {s : Standing} → Ran files bs false s → s.wants ≡ Input →
       (n : ℕ) (front : List ℕ) → Held s.input s.at s.end n front → (m : ℕ) (input : List ℕ) → Ended front n m input →
-      (readable : Bool) (reading : Reading) (w : Walked) → Went false readable reading (take m input) (walked (reads s input m)) w →
+      (w : Walked) → Went None (take m input) (walked (reads s input m)) w →
       Ran files bs true (further (reads s input m) w)
 
 -- ---- what the contracts give
@@ -148,13 +147,13 @@ held_is (holds κs a n s e) = e (asks_nothing.hold κs a)
 pub ended_is : {front input : List ℕ} {n m : ℕ} → Ended front n m input → (input ≡ ended front n) × (m ≡ ended_at front n) × (m ≤ length front)
 ended_is (ends κs a m s e) = e (asks_nothing.end_line κs a)
 
-pub record Walks (given readable : Bool) (reading : Reading) (input : List ℕ) (w v : Walked) : Type 0 where
-  pub is : v ≡ walk readable reading given w (lines_in (drop w.at input))
+pub record Walks (given : Option File) (input : List ℕ) (w v : Walked) : Type 0 where
+  pub is : v ≡ walk given w (lines_in (drop w.at input))
   pub room : w.out ≤ length w.output → v.out ≤ length w.output
   pub even : v.ledger ≡ held v.register
   pub named : NamedIf input v.at v.wants
 
-pub went_is : {given readable : Bool} {reading : Reading} {input : List ℕ} {w v : Walked} → Went given readable reading input w v → Walks given readable reading input w v
+pub went_is : {given : Option File} {input : List ℕ} {w v : Walked} → Went given input w v → Walks given input w v
 went_is (goes κs a y s e) =
     let p = e (asks_nothing.answer_lines κs a) in
     record { is = p.0; room = p.1.room; even = refl; named = p.1.named }

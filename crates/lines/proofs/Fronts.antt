@@ -1,7 +1,8 @@
--- Bytes moved to the front of a buffer, one after another from the first on.
-use Rattle.std.proofs.Common.{◌≡◌, ℕ, zero, suc, ◌+◌, ◌-◌, ◌<◌, ◌≤◌, min, Bool, true, false, ◌&&◌, ltb, leb, List, [], ◌∷◌, ◌++◌, length, get_or, take, drop, set, sym, refl, ap, ◌∙◌, append_assoc, add-one, arith, length-append, length-drop, length-take, length-take-le, get_or-drop, take_all, drop-cons, take-suc, take-take, get_or-append-add, le-ltb, lt-ltb, le-leb, leb-false, leb-true}
-use lib.Seq.{sets, sets-eq, set_at, take-nil}
+-- Bytes moved to the front of a buffer.
+use Rattle.std.proofs.Common.{◌≡◌, ℕ, zero, suc, ◌+◌, ◌-◌, ◌<◌, ◌≤◌, min, Bool, true, false, ◌&&◌, ltb, leb, List, [], ◌∷◌, ◌++◌, length, take, drop, set, sym, refl, ap, ◌∙◌, arith, length-drop, length-take, length-take-le, take_all, take-take, le-ltb, lt-ltb, le-leb, leb-false, leb-true}
+use lib.Seq.{sets, sets-eq, take-nil}
 use borrow.Author.Tests.{lt-leb}
+use Rattle.std.specs.List.{copy_within}
 use Rattle.lists.proofs.Tests.{by_test}
 use Rattle.lines.specs.Walking.{held_of, is_last, ended, ended_at}
 
@@ -12,32 +13,19 @@ drop_take (suc m) zero s = let e : 0 - suc m ≡ 0 = omega arith in rw e
 drop_take (suc m) (suc n) [] = sym (take-nil (suc n - suc m))
 drop_take (suc m) (suc n) (x ∷ s) = let e : suc n - suc m ≡ n - m = omega arith in rw e (drop_take m n s)
 
-append_snoc_in : (v : List ℕ) (b : ℕ) (s : List ℕ) → (v ++ b ∷ []) ++ s ≡ v ++ b ∷ s
-append_snoc_in v b s = append_assoc v (b ∷ []) s
-
 -- what is put at the front, and the rest behind it
 module _ (s : List ℕ) where
   pub put_front : (v : List ℕ) → length v ≤ length s → sets s 0 v ≡ v ++ drop (length v) s
   put_front v h = let e : 0 + length v ≡ length v = omega arith in rw e at (sets-eq v s 0 (omega arith))
 
-  -- one byte more: it stands behind what was put, and is as it was
-  pub moved_next : (from n : ℕ) → from + n < length s →
-      set (sets s 0 (take n (drop from s))) n (get_or (sets s 0 (take n (drop from s))) (from + n) 0) ≡ sets s 0 (take (n + 1) (drop from s))
-  moved_next from n h =
-      let v = take n (drop from s) in
-      let l : length v ≡ n = length-take-le n (drop from s) (rw length-drop (omega arith)) in
-      let p : sets s 0 v ≡ v ++ drop n s = put_front v (omega (arith, l)) ∙ ap (λ (i : ℕ). v ++ drop i s) l in
-      let k : from + n ≡ length v + from = omega (arith, l) in
-      let x : get_or (v ++ drop n s) (from + n) 0 ≡ get_or (drop from s) n 0 =
-      let c : n + from ≡ from + n = omega arith in
-      ap (λ (i : ℕ). get_or (v ++ drop n s) i 0) k ∙ get_or-append-add v (drop n s) from 0 ∙ get_or-drop n s from 0
-      ∙ ap (λ (i : ℕ). get_or s i 0) c ∙ sym (get_or-drop from s n 0) in
-      let b = get_or (drop from s) n 0 in
-      let t : take (n + 1) (drop from s) ≡ v ++ b ∷ [] = rw add-one (take-suc (drop from s) n 0 (rw length-drop (omega arith))) in
-      let m : length (v ++ b ∷ []) ≡ suc n = length-append v (b ∷ []) ∙ (omega (arith, l)) in
-      let q : sets s 0 (v ++ b ∷ []) ≡ v ++ b ∷ drop (suc n) s =
-      put_front (v ++ b ∷ []) (omega (arith, m)) ∙ ap (λ (i : ℕ). (v ++ b ∷ []) ++ drop i s) m ∙ append_snoc_in v b (drop (suc n) s) in
-      rw (p, x, drop-cons s n 0 (omega arith), set_at v (get_or s n 0) (drop (suc n) s) b n l, t) (sym q)
+  -- a part of a list copied to its front
+  pub copied_front : (start n : ℕ) → start + n ≤ length s → copy_within s start (start + n) 0 ≡ sets s 0 (take n (drop start s))
+  copied_front start n h =
+      let v = take n (drop start s) in
+      let l : length v ≡ n = length-take-le n (drop start s) (rw length-drop (omega arith)) in
+      let e : start + n - start ≡ n = omega arith in
+      let z : 0 + n ≡ n = omega arith in
+      rw (e, z) (sym (put_front v (omega (arith, l)) ∙ ap (λ (i : ℕ). v ++ drop i s) l))
 
 -- the first of the first entries, and as many as there are
 pub take_least : (m n : ℕ) (s : List ℕ) → take m (take n s) ≡ take (min m n) s
@@ -94,6 +82,17 @@ pub held_all : (s : List ℕ) (from to end n : ℕ) (moved : List ℕ) → end �
     (moved ≡ sets s 0 (held_of s from to)) × (n ≡ length (held_of s from to)) × (n ≤ 513) × (n ≤ length s)
 held_all s from to end n moved e f m =
     (m ∙ ap (sets s 0) (held_front s from to end n e f), held_many s from to end n e f, omega (arith, f), omega (arith, e, f))
+
+-- the same where they are copied from a place that lies in the input
+pub held_moved : (s : List ℕ) (from to : ℕ) {end start n : ℕ} {moved : List ℕ} → end ≡ min to (length s) → start ≡ min from end → n ≡ min 513 (end - start) →
+    moved ≡ copy_within s start (start + n) 0 →
+    (moved ≡ sets s 0 (held_of s from to)) × (n ≡ length (held_of s from to)) × (n ≤ 513) × (n ≤ length s)
+held_moved s from to {end} {start} {n} {moved} e f g m =
+    held_all s from to end n moved e (omega (arith, f, g))
+    (m ∙ copied_front s start n (omega (arith, e, f, g))
+    ∙ by_test (leb from end)
+    (λ t. let k : start ≡ from = omega (arith, f, leb-true from end t) in rw k refl)
+    (λ t. let k : n ≡ 0 = omega (arith, f, g, leb-false from end t) in rw k refl))
 
 -- ---- a last line
 

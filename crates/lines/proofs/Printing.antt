@@ -1,11 +1,12 @@
 -- A walk prints the answers of the lines that it passes, each by the ledger as the line before left it, and leaves the others.
-use Rattle.std.proofs.Common.{◌≡◌, ℕ, zero, suc, ◌+◌, ◌<◌, ◌≤◌, Bool, true, false, eqb, List, [], ◌∷◌, ◌++◌, length, take, drop, sym, refl, ap, ◌∙◌, subst, append_assoc, le_trans, lt_of_le_of_lt, mod-eq_of_lt, add-one, arith, length-append, length-take-le, drop-drop, take_at, eqb-true}
+use Rattle.std.proofs.Common.{◌≡◌, ℕ, zero, suc, ◌+◌, ◌<◌, ◌≤◌, Bool, true, eqb, List, [], ◌∷◌, ◌++◌, length, take, drop, sym, refl, ap, ◌∙◌, subst, append_assoc, le_trans, lt_of_le_of_lt, mod-eq_of_lt, add-one, arith, length-append, length-take-le, drop-drop, take_at, eqb-true}
 use lib.Seq.{sets, sets-eq, length-sets}
 use borrow.Author.Tests.{eqb-false}
-use Rattle.lists.proofs.Tests.{by_test, true_false}
+use Rattle.lists.proofs.Tests.{by_test}
 use Rattle.lists.proofs.Parts.{drop_past}
 use Rattle.notification.specs.Reading.{lines_in, read_file}
-use Rattle.notification.specs.declared.Reading.{Reading}
+use Rattle.std.specs.Prelude.{Option, Some, None, ⊤}
+use Rattle.session.specs.Lines.{Reading}
 use Rattle.ledger.specs.Ledger.{Ledger}
 use Rattle.ledger.specs.Call.{csv, read_form}
 use Rattle.ledger.specs.Calls.{Outcome}
@@ -16,9 +17,12 @@ use Rattle.answers.specs.declared.Said.{Said}
 use Rattle.script.specs.Lines.{Asked, calls, file_of, engagement, record_of, unknown, filing, line_of}
 use Rattle.script.specs.Answers.{answer_line, answer_put, answer_end}
 use Rattle.lines.specs.Scripts.{lines_of, Files, Found, Line, called, line_says, name_of, answer, printed}
-use Rattle.lines.specs.Walking.{Walked, has_room, next, name_from, name_at, wanted, filed, says_read, stops, answered, walk}
+use Rattle.session.specs.Lines.{File}
+use Rattle.lines.proofs.Blocks.{Reads}
+use Rattle.lines.specs.Walking.{Walked, has_room, next, name_from, name_at, wanted, file_in, filed, says_read, stops, answered, walk}
 use Rattle.lines.specs.declared.answering.Wants.{Wants}
-use Rattle.lines.specs.declared.answering.Wants.TheVariants.{Input, File, Room}
+use Rattle.lines.specs.declared.answering.Wants.TheVariants as Want
+use Rattle.lines.specs.declared.answering.Wants.TheVariants.{Input, Room}
 use Rattle.lines.proofs.Walks.{walk_none, walk_room, walk_file, walk_on}
 use Rattle.lines.proofs.Cutting.{First, first_line_lem, of_first, cuts, cuts_first}
 
@@ -53,29 +57,22 @@ unfolding read_form
 filed_says l u name body x e =
     ap (filed l u) e ∙ ap (λ (o : Outcome). record { ledger = o.ledger; said = said_of o.answer }) (sym (step_file l SevenDays u (csv name body)))
 
--- what is known of the file that is found under a name: whether it can be read, and what it was read as where it can
-pub record Known (readable : Bool) (reading : Reading) (name : List ℕ) (f : Found) : Type 0 where
-  pub found : readable ≡ f.readable
-  pub reads : f.readable ≡ true → reading ≡ read_file name f.body
-
-read_says : (l : Ledger) (readable : Bool) (x : Reading) (f : Found) (a : Asked) → Known readable x (name_of a) f →
-    says_read l readable x a ≡ line_says l f a
+read_says : (l : Ledger) (file : File) (f : Found) (a : Asked) → Reads file (name_of a) f → says_read l file a ≡ line_says l f a
 unfolding says_read line_says
-read_says l readable x f (calls c) k = refl
-read_says l readable x f (file_of submitter name) k =
-    by_test f.readable (λ t. rw (k.found, t) (filed_says l submitter name f.body x (k.reads t))) (λ t. rw (k.found, t) refl)
-read_says l readable x f (engagement actor category day s) k = refl
-read_says l readable x f (record_of asker id) k = refl
-read_says l readable x f unknown k = refl
+read_says l file f (calls c) k = refl
+read_says l None f (file_of submitter name) k = rw k refl
+read_says l (Some x) f (file_of submitter name) k = rw k.0 (filed_says l submitter name f.body x k.1)
+read_says l file f (engagement actor category day s) k = refl
+read_says l file f (record_of asker id) k = refl
+read_says l file f unknown k = refl
 
-any_read : (n : ℕ) (l : Ledger) (readable : Bool) (x : Reading) (f : Found) (a : Asked) → name_from n a ≡ 0 →
-    says_read l readable x a ≡ line_says l f a
+any_read : (n : ℕ) (l : Ledger) (file : File) (f : Found) (a : Asked) → name_from n a ≡ 0 → says_read l file a ≡ line_says l f a
 unfolding says_read line_says
-any_read n l readable x f (calls c) e = refl
-any_read n l readable x f (file_of submitter name) e = absurd (omega (arith, e))
-any_read n l readable x f (engagement actor category day s) e = refl
-any_read n l readable x f (record_of asker id) e = refl
-any_read n l readable x f unknown e = refl
+any_read n l file f (calls c) e = refl
+any_read n l file f (file_of submitter name) e = absurd (omega (arith, e))
+any_read n l file f (engagement actor category day s) e = refl
+any_read n l file f (record_of asker id) e = refl
+any_read n l file f unknown e = refl
 
 -- the next number, where it fits in 64 bits
 pub next_is : (n : ℕ) → n + 1 < 18446744073709551616 → next n ≡ suc n
@@ -88,18 +85,18 @@ some (suc n) f = omega arith
 -- ---- one line
 
 -- what is known is known of the file of the next line, where it is given
-abbrev pub Fits : Files → Bool → Bool → Reading → ℕ → List ℕ → Type 0
-Fits files given readable reading n text =
-    given ≡ true → (line : List ℕ) (ls : List (List ℕ)) → lines_in text ≡ line ∷ ls →
-    Known readable reading (name_of (line_of line)) (files n (name_of (line_of line)))
+abbrev pub Fits : Files → Option File → ℕ → List ℕ → Type 0
+Fits files None n text = ⊤
+Fits files (Some file) n text =
+    (line : List ℕ) (ls : List (List ℕ)) → lines_in text ≡ line ∷ ls → Reads file (name_of (line_of line)) (files n (name_of (line_of line)))
 
-module _ (files : Files) (readable : Bool) (reading : Reading) where
+module _ (files : Files) where
   -- a line that is answered is answered by its file, or names none
-  its_answer : (given : Bool) (l : Ledger) (n : ℕ) (text line : List ℕ) (ls : List (List ℕ)) → lines_in text ≡ line ∷ ls →
-      Fits files given readable reading n text → wanted given line ≡ 0 → says_read l readable reading (line_of line) ≡ answer files l n line
+  its_answer : (given : Option File) (l : Ledger) (n : ℕ) (text line : List ℕ) (ls : List (List ℕ)) → lines_in text ≡ line ∷ ls →
+      Fits files given n text → wanted given line ≡ 0 → says_read l (file_in given) (line_of line) ≡ answer files l n line
   unfolding name_at
-  its_answer true l n text line ls e f k = read_says l readable reading (files n (name_of (line_of line))) (line_of line) (f refl line ls e)
-  its_answer false l n text line ls e f k = any_read (length line) l readable reading (files n (name_of (line_of line))) (line_of line) k
+  its_answer (Some file) l n text line ls e f k = read_says l file (files n (name_of (line_of line))) (line_of line) (f line ls e)
+  its_answer None l n text line ls e f k = any_read (length line) l None (files n (name_of (line_of line))) (line_of line) k
 
   -- ---- the walk
 
@@ -121,34 +118,34 @@ module _ (files : Files) (readable : Bool) (reading : Reading) where
   -- what is left when more input is wanted, and when a file is
   pub record Stops (v : Walked) (rest : List ℕ) : Type 0 where
     pub idle : v.wants ≡ Input → lines_in rest ≡ []
-    pub named : (from to : ℕ) → v.wants ≡ File from to → (line : List ℕ) × (ls : List (List ℕ)) × (lines_in rest ≡ line ∷ ls) × (to ≡ v.at + length line)
+    pub named : (from to : ℕ) → v.wants ≡ Want.File from to → (line : List ℕ) × (ls : List (List ℕ)) × (lines_in rest ≡ line ∷ ls) × (to ≡ v.at + length line)
 
   pub record Left (w : Walked) (text : List ℕ) (v : Walked) : Type 0 where
     pub rest : List ℕ
     pub passed : Passed w text v rest
     pub stop : Stops v rest
 
-  pub out_grows : (given : Bool) (w : Walked) (ls : List (List ℕ)) → w.out ≤ (walk readable reading given w ls).out
+  pub out_grows : (given : Option File) (w : Walked) (ls : List (List ℕ)) → w.out ≤ (walk given w ls).out
   unfolding walk
   out_grows given w [] = omega arith
   out_grows given w (line ∷ ls) =
       by_test (has_room w.output w.out)
       (λ t.
       by_test (eqb (wanted given line) 0)
-      (λ u. rw (t, u) (le_trans (end_more w.output w.out _ _) (out_grows false (answered readable reading w line) ls)))
+      (λ u. rw (t, u) (le_trans (end_more w.output w.out _ _) (out_grows None (answered given w line) ls)))
       (λ u. rw (t, u) (omega arith)))
       (λ t. rw t (omega arith))
 
   -- one line is passed
-  one_line : (given : Bool) (w : Walked) (text line : List ℕ) (ls : List (List ℕ)) (x : First text line ls) → lines_in text ≡ line ∷ ls →
-      Fits files given readable reading (suc w.number) text → wanted given line ≡ 0 → has_room w.output w.out ≡ true →
-      w.number + length text < 18446744073709551616 → (answered readable reading w line).out ≤ length w.output →
-      Passed w text (answered readable reading w line) x.rest
+  one_line : (given : Option File) (w : Walked) (text line : List ℕ) (ls : List (List ℕ)) (x : First text line ls) → lines_in text ≡ line ∷ ls →
+      Fits files given (suc w.number) text → wanted given line ≡ 0 → has_room w.output w.out ≡ true →
+      w.number + length text < 18446744073709551616 → (answered given w line).out ≤ length w.output →
+      Passed w text (answered given w line) x.rest
   unfolding printed
   one_line given w text line ls x e f k room few fits =
       let rest = x.rest in
       let n = suc w.number in
-      let done = says_read w.ledger readable reading (line_of line) in
+      let done = says_read w.ledger (file_in given) (line_of line) in
       let a : done ≡ answer files w.ledger n line = its_answer given w.ledger n text line ls e f k in
       let l : length text ≡ length line + suc (length rest) = ap length x.parts ∙ length-append line (10 ∷ rest) in
       let m : next w.number ≡ n = next_is w.number (omega (arith, few, l)) in
@@ -202,11 +199,11 @@ module _ (files : Files) (readable : Bool) (reading : Reading) where
         };
       }
 
-  left_file : (w : Walked) (text line : List ℕ) (ls : List (List ℕ)) (from to : ℕ) → lines_in text ≡ line ∷ ls → to ≡ w.at + length line → Left w text (stops w (File from to))
+  left_file : (w : Walked) (text line : List ℕ) (ls : List (List ℕ)) (from to : ℕ) → lines_in text ≡ line ∷ ls → to ≡ w.at + length line → Left w text (stops w (Want.File from to))
   left_file w text line ls from to e k =
       record {
         rest = text;
-        passed = stays w text (File from to);
+        passed = stays w text (Want.File from to);
         stop = record {
           idle = λ q. let z : ◌≡◌ {A = ℕ} 0 1 = cc in absurd (omega arith);
           named = λ a b q. let r : to ≡ b = cc in (line, ls, e, sym r ∙ k);
@@ -217,24 +214,24 @@ module _ (files : Files) (readable : Bool) (reading : Reading) where
   left_on p l = record { rest = l.rest; passed = joined p l.passed; stop = l.stop }
 
   -- WHAT A WALK PRINTS
-  pub walk_prints : (given : Bool) (w : Walked) (text : List ℕ) (ls : List (List ℕ)) → lines_in text ≡ ls → Fits files given readable reading (suc w.number) text →
-      w.number + length text < 18446744073709551616 → (walk readable reading given w ls).out ≤ length w.output → Left w text (walk readable reading given w ls)
-  walk_prints given w text [] e f few fits = subst (Left w text) (sym (walk_none readable reading given w)) (left_input w text e)
+  pub walk_prints : (given : Option File) (w : Walked) (text : List ℕ) (ls : List (List ℕ)) → lines_in text ≡ ls → Fits files given (suc w.number) text →
+      w.number + length text < 18446744073709551616 → (walk given w ls).out ≤ length w.output → Left w text (walk given w ls)
+  walk_prints given w text [] e f few fits = subst (Left w text) (sym (walk_none given w)) (left_input w text e)
   walk_prints given w text (line ∷ ls) e f few fits =
       by_test (has_room w.output w.out)
       (λ t.
       by_test (eqb (wanted given line) 0)
       (λ u.
-      let v = answered readable reading w line in
+      let v = answered given w line in
       let x = first_line_lem text line ls e in
-      let on = walk_on readable reading given w line ls v t (eqb-true (wanted given line) 0 u) refl in
-      let g : (walk readable reading false v ls).out ≤ length w.output = subst (λ (y : Walked). y.out ≤ length w.output) on fits in
-      let one = one_line given w text line ls x e f (eqb-true (wanted given line) 0 u) t few (le_trans (out_grows false v ls) g) in
+      let on = walk_on given w line ls v t (eqb-true (wanted given line) 0 u) refl in
+      let g : (walk None v ls).out ≤ length w.output = subst (λ (y : Walked). y.out ≤ length w.output) on fits in
+      let one = one_line given w text line ls x e f (eqb-true (wanted given line) 0 u) t few (le_trans (out_grows None v ls) g) in
       let later =
-      walk_prints false v x.rest ls x.others (λ q. true_false true refl (sym q)) (lt_of_le_of_lt one.fewer few)
-      (subst (λ (i : ℕ). (walk readable reading false v ls).out ≤ i) (sym one.as_long) g) in
+      walk_prints None v x.rest ls x.others tt (lt_of_le_of_lt one.fewer few)
+      (subst (λ (i : ℕ). (walk None v ls).out ≤ i) (sym one.as_long) g) in
       subst (Left w text) (sym on) (left_on one later))
       (λ u.
-      subst (Left w text) (sym (walk_file readable reading given w line ls t (some (wanted given line) (eqb-false (wanted given line) 0 u))))
+      subst (Left w text) (sym (walk_file given w line ls t (some (wanted given line) (eqb-false (wanted given line) 0 u))))
       (left_file w text line ls (w.at + wanted given line) (w.at + length line) e refl)))
-      (λ t. subst (Left w text) (sym (walk_room readable reading given w line ls t)) (left_room w text))
+      (λ t. subst (Left w text) (sym (walk_room given w line ls t)) (left_room w text))

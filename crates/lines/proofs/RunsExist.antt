@@ -1,12 +1,12 @@
 -- EVERY LIST OF BLOCKS HAS A RUN: from a fresh register, whatever the lent columns and the buffers hold, there is, call after call, what meets
 -- what the called function ensures, until all blocks are fed, the input has ended and no line is left. So what is shown of every run of a
 -- script in blocks is shown of every script, and no contract asks for what can't be.
-use Rattle.std.proofs.Common.{◌≡◌, ℕ, zero, suc, ◌+◌, ◌*◌, ◌<◌, ◌≤◌, Bool, true, false, ltb, ◌⊎◌, List, [], ◌∷◌, ◌++◌, length, take, drop, sym, refl, ap, ◌∙◌, subst, inl, inr, ⊎_elim, append_assoc, append-nil, arith, length-append, length-drop, length-set, length-take, length-take-le, take_at, ltb-true, le-leb}
+use Rattle.std.proofs.Common.{◌≡◌, ℕ, zero, suc, ◌+◌, ◌*◌, ◌<◌, ◌≤◌, Bool, true, false, cond, ltb, ◌⊎◌, List, [], ◌∷◌, ◌++◌, length, take, drop, sym, refl, ap, ◌∙◌, subst, inl, inr, ⊎_elim, append_assoc, append-nil, arith, length-append, length-drop, length-set, length-take, length-take-le, take_at, ltb-true, le-leb}
 use lib.Seq.{sets, length-sets}
 use Rattle.lists.proofs.Tests.{by_test, and_right}
 use Rattle.lists.proofs.All.{All, all_none, all_more}
 use Rattle.notification.specs.Reading.{lines_in, read_file}
-use Rattle.notification.specs.declared.Reading.{Reading}
+use Rattle.std.specs.Prelude.{Option, Some, None}
 use Rattle.ledger.specs.Ledger.{fresh}
 use Rattle.tables.specs.Tables.{Columns, LoadColumns}
 use Rattle.register.specs.View.{held}
@@ -16,13 +16,15 @@ use Rattle.register.proofs.Runs.{Begun, begun_is}
 use Rattle.register.proofs.Sized.{LoadsSized, RecordsSized, Sized, ref_mut}
 use Rattle.register.proofs.RunsExist.{fresh_sized}
 use Rattle.script.specs.Spans.{cut}
-use Rattle.lines.specs.Scripts.{lines_of, joined, Files, printed}
+use Rattle.lines.specs.Scripts.{Found, lines_of, joined, Files, printed}
+use Rattle.session.specs.Lines.{File}
 use Rattle.lines.specs.Walking.{held_of, is_last, ended, ended_at, Walked, walk}
 use Rattle.lines.specs.declared.answering.Wants.{Wants}
-use Rattle.lines.specs.declared.answering.Wants.TheVariants.{Input, File, Room}
+use Rattle.lines.specs.declared.answering.Wants.TheVariants as Want
+use Rattle.lines.specs.declared.answering.Wants.TheVariants.{Input, Room}
 use Rattle.lines.proofs.LinesFit.{Early, early_fresh}
 use Rattle.lines.proofs.WalksExist.{Goes, room_fee, left, walk_goes, walked_on, walk_exists}
-use Rattle.lines.proofs.Blocks.{Held, holds, Ended, ends, Went, Standing, block, walked, reads, further, writes, Ran, starts, fed, found, wrote, went, closed}
+use Rattle.lines.proofs.Blocks.{Held, holds, Ended, ends, Went, Standing, block, walked, reads, further, writes, Reads, Ran, starts, fed, found, wrote, went, closed}
 use Rattle.lines.proofs.Whole.{most, out_of, script_in_blocks}
 
 -- ---- where a run may stand
@@ -44,23 +46,26 @@ fit_reads : {long : ℕ} {s : Standing} → Fit long s → (input : List ℕ) (e
 fit_reads f input end e =
     record { sized = f.sized; early = f.early; reached = omega arith; waits = f.waits; roomy = f.roomy; as_long = e }
 
--- where no file is given, any reading will do
-abbrev none : Reading
-none = read_file [] []
+-- what the file that is found under a name is read as
+abbrev file_there : List ℕ → Found → File
+file_there name there = cond there.readable (Some (read_file name there.body)) None
+
+there_read : (name : List ℕ) (there : Found) → Reads (file_there name there) name there
+there_read name there = by_test there.readable (λ t. rw t (refl, refl)) (λ t. rw t refl)
 
 -- ---- the lines go on
 
-module _ {long : ℕ} (s : Standing) (f : Fit long s) (given readable : Bool) (reading : Reading) where
+module _ {long : ℕ} (s : Standing) (f : Fit long s) (given : Option File) where
   abbrev on : Walked
-  on = walked_on given readable reading (block s) (walked s)
+  on = walked_on given (block s) (walked s)
 
-  far : Goes (block s) given (walked s) (walk readable reading given (walked s) (lines_in (drop s.at (block s))))
+  far : Goes (block s) given (walked s) (walk given (walked s) (lines_in (drop s.at (block s))))
   far =
-      walk_goes (block s) readable reading (lines_in (drop s.at (block s))) given (walked s)
+      walk_goes (block s) (lines_in (drop s.at (block s))) given (walked s)
       (record { sized = f.sized; holds = refl; early = f.early }) f.reached f.waits refl
 
-  there : Went given readable reading (block s) (walked s) on
-  there = walk_exists given readable reading (block s) s.register s.number s.at s.output s.out far
+  there : Went given (block s) (walked s) on
+  there = walk_exists given (block s) s.register s.number s.at s.output s.out far
 
   fit_on : Fit long (further s on)
   fit_on =
@@ -78,11 +83,11 @@ module _ {long : ℕ} (s : Standing) (f : Fit long s) (given readable : Bool) (r
 -- where a run starts
 abbrev pub start_of : {files : Files} {bs : List (List ℕ)} {e : Bool} {s : Standing} → Ran files bs e s → Standing
 start_of {s = s} (starts start b cols loads input output h) = s
-start_of (fed run i n front h b input p l readable reading w g) = start_of run
-start_of (found run from to i reading k w g) = start_of run
+start_of (fed run i n front h b input p l w g) = start_of run
+start_of (found run from to i file k w g) = start_of run
 start_of (wrote run) = start_of run
-start_of (went run readable reading w g) = start_of run
-start_of (closed run i n front h m input d readable reading w g) = start_of run
+start_of (went run w g) = start_of run
+start_of (closed run i n front h m input d w g) = start_of run
 
 -- what is left to do: twice the lines that are left, and one more where room is wanted
 abbrev cost : Standing → ℕ
@@ -113,27 +118,27 @@ module _ (files : Files) (first : Standing) (long : ℕ) where
     -- the answers are written, and what is wanted is given
     once : (s : Standing) (want : Wants) → s.wants ≡ want → (run : Ran files bs e s) → start_of run ≡ first → Fit long s → Moved bs e (cost s)
     once s Input i run o f = record { standing = s; run = run; since = o; fit = f; lower = inl i }
-    once s (File from to) i run o f =
+    once s (Want.File from to) i run o f =
         let name = cut (block s) from to in
         let there-is = files (suc s.number) name in
-        let reading = read_file name there-is.body in
+        let file = file_there name there-is in
         let g = fit_writes f in
         record {
-          standing = further (writes s) (on (writes s) g true there-is.readable reading);
-          run = found (wrote run) from to i reading (λ t. refl) (on (writes s) g true there-is.readable reading)
-              (there (writes s) g true there-is.readable reading);
+          standing = further (writes s) (on (writes s) g (Some file));
+          run = found (wrote run) from to i file (there_read name there-is) (on (writes s) g (Some file))
+              (there (writes s) g (Some file));
           since = o;
-          fit = fit_on (writes s) g true there-is.readable reading;
-          lower = lower_still (omega arith) ((far (writes s) g true there-is.readable reading).lower (le-leb 64 (length s.output) f.roomy));
+          fit = fit_on (writes s) g (Some file);
+          lower = lower_still (omega arith) ((far (writes s) g (Some file)).lower (le-leb 64 (length s.output) f.roomy));
         }
     once s Room i run o f =
         let g = fit_writes f in
         record {
-          standing = further (writes s) (on (writes s) g false true none);
-          run = went (wrote run) true none (on (writes s) g false true none) (there (writes s) g false true none);
+          standing = further (writes s) (on (writes s) g None);
+          run = went (wrote run) (on (writes s) g None) (there (writes s) g None);
           since = o;
-          fit = fit_on (writes s) g false true none;
-          lower = lower_still (omega (arith, ap room_fee i)) ((far (writes s) g false true none).lower (le-leb 64 (length s.output) f.roomy));
+          fit = fit_on (writes s) g None;
+          lower = lower_still (omega (arith, ap room_fee i)) ((far (writes s) g None).lower (le-leb 64 (length s.output) f.roomy));
         }
 
     rests : {k : ℕ} (x : Moved bs e k) → x.standing.wants ≡ Input → Idle bs e
@@ -188,9 +193,9 @@ module _ (files : Files) (first : Standing) (long : ℕ) where
         length-append text (drop (n + length b) front) ∙ omega (arith, many, length-drop (n + length b) front, h, few_kept.0, front_long) in
         let r = reads s input (n + length b) in
         let f = fit_reads x.fit input (n + length b) (all ∙ front_long) in
-        settles (further r (on r f false true none))
-        (fed x.run x.idle n front is_held b input (take_at text (drop (n + length b) front) (n + length b) many) all true none (on r f false true none) (there r f false true none))
-        x.since (fit_on r f false true none)
+        settles (further r (on r f None))
+        (fed x.run x.idle n front is_held b input (take_at text (drop (n + length b) front) (n + length b) many) all (on r f None) (there r f None))
+        x.since (fit_on r f None)
 
     -- ---- the input ends
 
@@ -218,9 +223,9 @@ module _ (files : Files) (first : Standing) (long : ℕ) where
     closes =
         let r = reads s last end in
         let f = fit_reads x.fit last end (last_long ∙ front_long) in
-        settles (further r (on r f false true none))
-        (closed x.run x.idle (length kept) front is_held end last is_ended true none (on r f false true none) (there r f false true none))
-        x.since (fit_on r f false true none)
+        settles (further r (on r f None))
+        (closed x.run x.idle (length kept) front is_held end last is_ended (on r f None) (there r f None))
+        x.since (fit_on r f None)
 
   feeds_all : (bs cs : List (List ℕ)) → All (λ b. length b + 513 ≤ long) cs → Idle bs false → Idle (bs ++ cs) false
   feeds_all bs [] all_none x = subst (λ ds. Idle ds false) (sym (append-nil bs)) x

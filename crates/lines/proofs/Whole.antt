@@ -7,7 +7,7 @@ use Rattle.lists.specs.Searches.{every}
 use Rattle.lists.proofs.Searches.{every_take}
 use Rattle.lists.proofs.Tests.{by_test, true_false}
 use Rattle.notification.specs.Reading.{lines_in}
-use Rattle.notification.specs.declared.Reading.{Reading}
+use Rattle.std.specs.Prelude.{Option, Some}
 use Rattle.notification.proofs.Lines.{in_line, lines_first}
 use Rattle.ledger.specs.Ledger.{Ledger, fresh}
 use Rattle.register.specs.View.{held, lent}
@@ -17,11 +17,13 @@ use Rattle.register.proofs.Runs.{Begun, begun_is}
 use Rattle.script.specs.Lines.{line_of}
 use Rattle.script.specs.Spans.{cut}
 use Rattle.lines.specs.Scripts.{lines_after, lines_of, joined, Files, name_of, printed}
+use Rattle.session.specs.Lines.{File}
 use Rattle.lines.specs.Walking.{held_of, is_last, ended, Walked, walk, Named, NamedIf}
-use Rattle.lines.specs.declared.answering.Wants.TheVariants.{Input, File}
+use Rattle.lines.specs.declared.answering.Wants.TheVariants as Want
+use Rattle.lines.specs.declared.answering.Wants.TheVariants.{Input}
 use Rattle.lines.proofs.Fronts.{put_front, none_held, some_last}
 use Rattle.lines.proofs.Cutting.{first_line_lem, no_first, of_first, of_last, last_some, cuts, cut_line, same_asked, held_alike}
-use Rattle.lines.proofs.Printing.{some, Known, Fits, Left, walk_prints}
+use Rattle.lines.proofs.Printing.{some, Fits, Left, walk_prints}
 use Rattle.lines.proofs.Blocks.{Held, Ended, Standing, block, walked, reads, further, writes, Reads, Ran, starts, fed, found, wrote, went, closed, held_is, ended_is, Walks, went_is}
 
 -- no input has as many bytes as 64 bits can count
@@ -66,7 +68,7 @@ record Next (s : Standing) (from to : ℕ) : Type 0 where
 
 record Rests (s : Standing) : Type 0 where
   pub idle : s.wants ≡ Input → lines_in (unread s) ≡ []
-  pub named : (from to : ℕ) → s.wants ≡ File from to → Next s from to
+  pub named : (from to : ℕ) → s.wants ≡ Want.File from to → Next s from to
 
 -- ---- the lines go on
 
@@ -78,8 +80,8 @@ line_here input rest line ls at to d e f =
     ap (λ (i : ℕ). take i (drop at input)) n ∙ ap (take (length line)) (d ∙ x.parts) ∙ take-append_seam line (10 ∷ x.rest)
 
 module _ (files : Files) (bs : List (List ℕ)) (e : Bool) (s : Standing) where
-  module _ {given readable : Bool} {reading : Reading} {w : Walked} (t : Tells files bs e s) (v : Walks given readable reading (block s) (walked s) w)
-      (q : Left files readable reading (walked s) (unread s) w) where
+  module _ {given : Option File} {w : Walked} (t : Tells files bs e s) (v : Walks given (block s) (walked s) w)
+      (q : Left files (walked s) (unread s) w) where
     abbrev place : drop w.at (block s) ≡ q.rest
     place = q.passed.place (block s) refl
 
@@ -115,28 +117,23 @@ module _ (files : Files) (bs : List (List ℕ)) (e : Bool) (s : Standing) where
               };
         }
 
-  goes_on : length (joined bs) < most → {given readable : Bool} {reading : Reading} {w : Walked} → Tells files bs e s → Walks given readable reading (block s) (walked s) w →
-      Fits files given readable reading (suc s.number) (unread s) → Tells files bs e (further s w) × Rests (further s w)
-  goes_on few {given} {readable} {reading} {w} t v f =
+  goes_on : length (joined bs) < most → {given : Option File} {w : Walked} → Tells files bs e s → Walks given (block s) (walked s) w →
+      Fits files given (suc s.number) (unread s) → Tells files bs e (further s w) × Rests (further s w)
+  goes_on few {given} {w} t v f =
       let ls = lines_in (unread s) in
-      let r : (walk readable reading given (walked s) ls).out ≤ length s.output = subst (λ (x : Walked). x.out ≤ length s.output) v.is (v.room t.room) in
-      let l = walk_prints files readable reading given (walked s) (unread s) ls refl f (omega (arith, t.few, few, one_lf e)) r in
-      let q : Left files readable reading (walked s) (unread s) w = subst (Left files readable reading (walked s) (unread s)) (sym v.is) l in
+      let r : (walk given (walked s) ls).out ≤ length s.output = subst (λ (x : Walked). x.out ≤ length s.output) v.is (v.room t.room) in
+      let l = walk_prints files given (walked s) (unread s) ls refl f (omega (arith, t.few, few, one_lf e)) r in
+      let q : Left files (walked s) (unread s) w = subst (Left files (walked s) (unread s)) (sym v.is) l in
       (tells_on_lem t v q, rests_on t v q)
 
--- nothing is given: nothing has to fit
-none_given : (files : Files) (readable : Bool) (reading : Reading) (n : ℕ) (text : List ℕ) → Fits files false readable reading n text
-none_given files readable reading n text q = true_false true refl (sym q)
-
--- a reading of what is found under the name that is wanted is one of what is there for the next line
-found_fits : (files : Files) (s : Standing) (from to n : ℕ) (reading : Reading) → Next s from to →
-    Reads reading (cut (block s) from to) (files n (cut (block s) from to)) →
-    Fits files true (files n (cut (block s) from to)).readable reading n (unread s)
-found_fits files s from to n reading x k q line ls h =
+-- what the file under the name that is wanted is read as is what the next line's is
+found_fits : (files : Files) (s : Standing) (from to n : ℕ) (file : File) → Next s from to →
+    Reads file (cut (block s) from to) (files n (cut (block s) from to)) → Fits files (Some file) n (unread s)
+found_fits files s from to n file x k line ls h =
     let r : line ∷ ls ≡ x.line ∷ x.others = sym h ∙ x.here in
     let l : x.line ≡ line = cc in
     let m : cut (block s) from to ≡ name_of (line_of line) = sym x.name ∙ ap (λ (y : List ℕ). name_of (line_of y)) l in
-    subst (λ (name : List ℕ). Known (files n (cut (block s) from to)).readable reading name (files n name)) m (record { found = refl; reads = k })
+    subst (λ (name : List ℕ). Reads file name (files n name)) m k
 
 -- ---- a block comes
 
@@ -292,20 +289,18 @@ module _ (files : Files) where
 
   sound : {bs : List (List ℕ)} {e : Bool} {s : Standing} → Ran files bs e s → length (joined bs) < most → Tells files bs e s × Rests s
   sound (starts start b cols loads input output h) few = at_first start b cols loads input output h _ refl
-  sound (fed {bs = bs} {s = s} run i n front h b input p l readable reading w g) few =
+  sound (fed {bs = bs} {s = s} run i n front h b input p l w g) few =
       let q = sound run (shorter bs b few) in
-      goes_on files (bs ++ b ∷ []) false (reads s input (n + length b)) few (block_comes files bs s q.0 q.1 i n front h b input p l) (went_is g)
-      (none_given files readable reading (suc s.number) (unread (reads s input (n + length b))))
-  sound (found {bs = bs} {e = e} {s = s} run from to i reading k w g) few =
+      goes_on files (bs ++ b ∷ []) false (reads s input (n + length b)) few (block_comes files bs s q.0 q.1 i n front h b input p l) (went_is g) tt
+  sound (found {bs = bs} {e = e} {s = s} run from to i file k w g) few =
       let q = sound run few in
-      goes_on files bs e s few q.0 (went_is g) (found_fits files s from to (suc s.number) reading (q.1.named from to i) k)
+      goes_on files bs e s few q.0 (went_is g) (found_fits files s from to (suc s.number) file (q.1.named from to i) k)
   sound (wrote run) few = let q = sound run few in written_on q.0 q.1
-  sound (went {bs = bs} {e = e} {s = s} run readable reading w g) few =
-      goes_on files bs e s few (sound run few).0 (went_is g) (none_given files readable reading (suc s.number) (unread s))
-  sound (closed {bs = bs} {s = s} run i n front h m input d readable reading w g) few =
+  sound (went {bs = bs} {e = e} {s = s} run w g) few =
+      goes_on files bs e s few (sound run few).0 (went_is g) tt
+  sound (closed {bs = bs} {s = s} run i n front h m input d w g) few =
       let q = sound run few in
-      goes_on files bs true (reads s input m) few (closes files bs s q.0 q.1 i n front h m input d) (went_is g)
-      (none_given files readable reading (suc s.number) (unread (reads s input m)))
+      goes_on files bs true (reads s input m) few (closes files bs s q.0 q.1 i n front h m input d) (went_is g) tt
 
 -- WHAT IS PRINTED, where more input is wanted
 pub record Script (files : Files) (bs : List (List ℕ)) (e : Bool) (s : Standing) : Type 0 where

@@ -1,20 +1,23 @@
 -- How the lines of an input are walked: what the functions inside say.
-use Rattle.std.specs.Prelude.{◌≡◌, ℕ, suc, ◌+◌, ◌-◌, ◌%◌, ◌≤◌, Bool, false, cond, ◌&&◌, List, [], ◌∷◌, length, take, drop, ◌==◌, nat_le, nat_lt, slice_set}
-use Rattle.refusals.specs.Tests.{decide}
-use Rattle.notification.specs.declared.Reading.{Reading}
+use Rattle.std.specs.Prelude.{◌≡◌, ℕ, suc, ◌+◌, ◌-◌, ◌%◌, ◌≤◌, ◌<◌, Bool, cond, ◌&&◌, List, [], ◌∷◌, length, take, drop, ◌==◌, nat_le, nat_lt, slice_set, Option, Some, None, unwrap_or, MatchOption}
+use Rattle.reader.specs.Walking.{LineEnd}
+use Rattle.refusals.specs.Tests.{decide, verdict}
+use Rattle.notification.specs.Reading.{note_of}
+use Rattle.session.specs.Lines.{Reading}
 use Rattle.ledger.specs.Ledger.{Ledger}
 use Rattle.ledger.specs.Calls.{Outcome, refused_by, step_note}
 use Rattle.ledger.specs.Asking.{ask_engagement, ask_record}
 use Rattle.ledger.specs.declared.Entry.TheVariants.{SevenDays}
-use Rattle.answers.specs.Values.{said_of, said_engaged, said_shown, said_refused}
+use Rattle.answers.specs.Values.{said_of, said_number, said_shown, said_refused}
 use Rattle.register.specs.View.{Register, held}
 use Rattle.script.specs.Lines.{Asked, calls, file_of, engagement, record_of, unknown, line_of}
 use Rattle.script.specs.Spans.{cut}
 use Rattle.script.specs.Answers.{line_room, answer_put, answer_end}
-use Rattle.session.specs.Lines.{no_call, line_step}
+use Rattle.session.specs.Lines.{File, no_call, line_step}
 use Rattle.lines.specs.Scripts.{lf, Line, called, says}
 use Rattle.lines.specs.declared.answering.Wants.{Wants}
-use Rattle.lines.specs.declared.answering.Wants.TheVariants.{Input, File, Room}
+use Rattle.lines.specs.declared.answering.Wants.TheVariants as Want
+use Rattle.lines.specs.declared.answering.Wants.TheVariants.{Input, Room}
 use Rattle.lines.specs.declared.answering.Progress.{Progress}
 
 -- ---- what is held between two blocks
@@ -41,20 +44,26 @@ ended_at input held = cond (is_last input held) (held + 1) 0
 
 -- the ledger that a filing leaves, and its answer
 abbrev pub step_reading : Ledger → List ℕ → Reading → Outcome
-step_reading l submitter x = decide x.verdict (step_note l SevenDays submitter x.notification) (refused_by l)
+step_reading l submitter x = decide (verdict x) (step_note l SevenDays submitter (note_of x)) (refused_by l)
 
 abbrev pub filed : Ledger → List ℕ → Reading → Line
 filed l submitter x = record { ledger = (step_reading l submitter x).ledger; said = said_of (step_reading l submitter x).answer }
 
 -- a line says the same as by the file itself, of which only the reading is kept
-unfoldable pub says_read : Ledger → Bool → Reading → Asked → Line
-says_read l readable x (calls c) = called l c
-says_read l readable x (file_of submitter name) = cond readable (filed l submitter x) (says l (said_refused no_call))
-says_read l readable x (engagement actor category day s) = says l (said_engaged (ask_engagement l actor category day s))
-says_read l readable x (record_of asker id) = says l (said_shown (ask_record l asker id))
-says_read l readable x unknown = says l (said_refused no_call)
+unfoldable pub says_read : Ledger → File → Asked → Line
+says_read l file (calls c) = called l c
+says_read l (Some x) (file_of submitter name) = filed l submitter x
+says_read l None (file_of submitter name) = says l (said_refused no_call)
+says_read l file (engagement actor category day s) = says l (said_number (ask_engagement l actor category day s))
+says_read l file (record_of asker id) = says l (said_shown (ask_record l asker id))
+says_read l file unknown = says l (said_refused no_call)
 
 -- ---- the walk
+
+-- the LF that ends a line, where one does; else no line starts at the place, or it goes to the end of the bytes
+abbrev pub LineFound : List ℕ → ℕ → Option ℕ → Type 0
+LineFound s from found =
+    MatchOption found (from ≤ length s → LineEnd s from (length s)) (λ end. LineEnd s from end × (end < length s))
 
 -- how far the lines went: the register, and the ledger that it holds
 pub record Walked : Type 0 where
@@ -90,8 +99,13 @@ unfoldable pub name_at : List ℕ → ℕ
 name_at line = name_from (length line) (line_of line)
 
 -- the same, unless the file is given
-abbrev pub wanted : Bool → List ℕ → ℕ
-wanted given line = cond given 0 (name_at line)
+abbrev pub wanted : Option File → List ℕ → ℕ
+wanted None line = name_at line
+wanted (Some file) line = 0
+
+-- the file that is given; where none is, none can be read
+abbrev pub file_in : Option File → File
+file_in given = unwrap_or given None
 
 -- the walk stops and wants something
 abbrev pub stops : Walked → Wants → Walked
@@ -111,18 +125,18 @@ tells_on w line r x =
       wants = Input;
     }
 
-abbrev pub answered : Bool → Reading → Walked → List ℕ → Walked
-answered readable reading w line =
-    tells_on w line (line_step w.register readable reading (line_of line)).register (says_read w.ledger readable reading (line_of line))
+abbrev pub answered : Option File → Walked → List ℕ → Walked
+answered given w line =
+    tells_on w line (line_step w.register (file_in given) (line_of line)).register (says_read w.ledger (file_in given) (line_of line))
 
 -- lines are answered until there is none, no room, or one whose file isn't given yet
-unfoldable pub walk : Bool → Reading → Bool → Walked → List (List ℕ) → Walked
-walk readable reading given w [] = stops w Input
-walk readable reading given w (line ∷ ls) =
+unfoldable pub walk : Option File → Walked → List (List ℕ) → Walked
+walk given w [] = stops w Input
+walk given w (line ∷ ls) =
     cond (has_room w.output w.out)
     (cond (wanted given line == 0)
-    (walk readable reading false (answered readable reading w line) ls)
-    (stops w (File (w.at + wanted given line) (w.at + length line))))
+    (walk None (answered given w line) ls)
+    (stops w (Want.File (w.at + wanted given line) (w.at + length line))))
     (stops w Room)
 
 -- ---- where the walk stands
@@ -142,7 +156,7 @@ pub record Named (input : List ℕ) (at from to : ℕ) : Type 0 where
 
 abbrev pub NamedIf : List ℕ → ℕ → Wants → Type 0
 NamedIf input at Input = 0 ≤ at
-NamedIf input at (File from to) = Named input at from to
+NamedIf input at (Want.File from to) = Named input at from to
 NamedIf input at Room = 0 ≤ at
 
 -- the places lie in the input and the output

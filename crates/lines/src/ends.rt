@@ -1,13 +1,12 @@
 // Where a line ends.
-ghost use Rattle.std.specs.Prelude.{◌≤◌, length};
-ghost use Rattle.reader.specs.Walking.{LineEnd};
+ghost use Rattle.lines.specs.Walking.{LineFound};
 
 use lists::bytes::far_byte_from;
 
-// Where the line that starts at a place ends: at its LF, or at the end of the bytes.
-pub(crate) fn line_end(s: &[u8], from: usize) -> usize
-    requires { from ≤ length s.now }
-    ensures { LineEnd s.now from result }
+// The LF that ends the line that starts at a place, where one does.
+pub(crate) fn line_end(s: &[u8], from: usize) -> Option<usize>
+    ensures { LineFound s.now from result }
 {
-    far_byte_from(s, from, b'\n')
+    let end = far_byte_from(s, from, b'\n');
+    if end < s.len() { Some(end) } else { None }
 }

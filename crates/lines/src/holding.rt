@@ -3,8 +3,6 @@ ghost use Rattle.std.specs.Prelude.{◌≡◌, ◌≤◌, length};
 ghost use Rattle.std.proofs.lemmas.List.Edits.{sets};
 ghost use Rattle.lines.specs.Walking.{held_of, ended, ended_at};
 
-use lists::numbers::least_length;
-
 // The most bytes of a line, and one more. A line that is too long stays so when the rest of it is forgotten.
 const HELD: usize = 513;
 
@@ -13,19 +11,11 @@ pub fn hold(input: &mut [u8], from: usize, to: usize) -> usize
     ensures { (input.new ≡ sets input.old 0 (held_of input.old from to))
         × (result ≡ length (held_of input.old from to)) × (result ≤ 513) × (result ≤ length input.old) }
 {
-    let end = least_length(to, input.len());
-    let mut n: usize = 0;
-    while n < HELD {
-        if end <= from {
-            return n;
-        }
-        if end - from <= n {
-            return n;
-        }
-        input[n] = input[from + n];
-        n += 1;
-    }
-    n
+    let end = to.min(input.len());
+    let start = from.min(end);
+    let held = HELD.min(end - start);
+    input.copy_within(start..start + held, 0);
+    held
 }
 
 // Gives a last line its LF, behind the bytes that are held of it, and says where the input then ends: at 0 where

@@ -1,86 +1,53 @@
 // A file whose body comes in pieces (document 02, K4): cut in two at every place, byte by byte, and in a thousand
 // random ways.
-ghost use Rattle.std.specs.Prelude.{◌≤◌, length};
+ghost use Rattle.std.specs.Prelude.{◌≤◌};
 
 use crate::printing::sum_of;
-use lists::numbers::least_length;
-use notification::Reading;
+use notification::Notification;
 use reader::pieces::FileReader;
+use refusals::Refusal;
 
 // The number after another in a row that looks like chance.
 fn next(seed: u32) -> u32 {
-    ((seed as u64 * 48271 + 11) % 2147483647) as u32
-}
-
-// One more, up to a million.
-fn more(count: u32) -> u32 {
-    if count < 1000000 { count + 1 } else { count }
+    ((u64::from(seed) * 48271 + 11) % 2147483647) as u32
 }
 
 // What a file is read as, its body cut at a place, with an empty piece in between.
-fn in_two(name: &[u8], body: &[u8], at: usize) -> Reading
-    requires { at ≤ length body.now }
-{
-    let begun = FileReader::begin(name);
-    let first = begun.feed(&body[0..at]);
-    let empty = first.feed(b"");
-    let second = empty.feed(&body[at..]);
-    second.end()
+fn in_two(name: &[u8], body: &[u8], at: usize) -> Result<Notification, Refusal> {
+    let (first, second) = body.split_at(at.min(body.len()));
+    FileReader::begin(name)
+        .feed(first)
+        .feed(b"")
+        .feed(second)
+        .end()
 }
 
 // The length of a piece: by chance up to so many bytes and one more.
 fn piece_length(row: u32, most: u32) -> usize
+    requires { most ≤ 1000 }
     ensures { (1 ≤ result) × (result ≤ 1001) }
 {
-    let long = (row % 1000) as usize % (most as usize + 1);
-    if 1000 < long {
-        return 1;
-    }
-    long + 1
+    (row % 1000 % (most + 1)) as usize + 1
 }
 
-// The same in pieces of such lengths.
-fn in_pieces(name: &[u8], body: &[u8], most: u32, seed: u32) -> Reading {
+// The same in pieces of such lengths: the way says how long they are at most, and which row of numbers is taken.
+fn in_pieces(name: &[u8], body: &[u8], way: u16) -> Result<Notification, Refusal> {
     let mut reader = FileReader::begin(name);
-    let mut row = seed;
-    let mut at: usize = 0;
-    while at < body.len() {
+    let mut row = u32::from(way) + 1;
+    let mut rest = body;
+    while !rest.is_empty() {
         row = next(row);
-        let end = at + least_length(body.len() - at, piece_length(row, most));
-        let fed = reader.feed(&body[at..end]);
-        reader = fed;
-        at = end;
+        let length = piece_length(row, u32::from(way) % 90);
+        let (piece, after) = rest.split_at(length.min(rest.len()));
+        reader = reader.feed(piece);
+        rest = after;
     }
     reader.end()
 }
 
-// In how many places cut in two it is read otherwise than as a sum says.
-fn others_in_two(name: &[u8], body: &[u8], whole: u32) -> u32 {
-    let mut others: u32 = 0;
-    let mut at: usize = 0;
-    while at < body.len() {
-        if sum_of(in_two(name, body, at)) != whole {
-            others = more(others);
-        }
-        at += 1;
-    }
-    others
-}
-
-// In how many of a thousand ways it is read otherwise, of which the first is byte by byte.
-fn others_in_pieces(name: &[u8], body: &[u8], whole: u32) -> u32 {
-    let mut others: u32 = 0;
-    let mut way: u32 = 0;
-    while way < 1000 {
-        if sum_of(in_pieces(name, body, way % 90, way + 1)) != whole {
-            others = more(others);
-        }
-        way += 1;
-    }
-    others
-}
-
-// Whether a file is read as what a sum says, however its body is cut.
+// Whether a file is read as what a sum says, however its body is cut: in two at each place, and in a thousand ways, of
+// which the first is byte by byte.
 pub(crate) fn is_alike(name: &[u8], body: &[u8], whole: u32) -> bool {
-    (others_in_two(name, body, whole) == 0) & (others_in_pieces(name, body, whole) == 0)
+    (0..body.len()).all(|at| sum_of(in_two(name, body, at)) == whole)
+        && (0..1000).all(|way| sum_of(in_pieces(name, body, way)) == whole)
 }

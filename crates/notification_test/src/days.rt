@@ -4,10 +4,10 @@ use std::io;
 
 // A body whose powers are all 0, and with one other.
 pub(crate) fn zero_powers(rt: &impl Print, name: &[u8], body: &[u8]) -> io::Result<()> {
-    file(rt, b"every power 0", name, body)?;
+    file(rt, "every power 0", name, body)?;
     other_body(
         rt,
-        b"every power 0 but that of line 49",
+        "every power 0 but that of line 49",
         name,
         body,
         768,
@@ -16,7 +16,7 @@ pub(crate) fn zero_powers(rt: &impl Print, name: &[u8], body: &[u8]) -> io::Resu
     )?;
     other_body(
         rt,
-        b"every power 0, 00 at line 49",
+        "every power 0, 00 at line 49",
         name,
         body,
         768,
@@ -27,10 +27,10 @@ pub(crate) fn zero_powers(rt: &impl Print, name: &[u8], body: &[u8]) -> io::Resu
 
 // A long day's file, and its body on other days.
 pub(crate) fn long_day(rt: &impl Print, name: &[u8], body: &[u8]) -> io::Result<()> {
-    file(rt, b"long day", name, body)?;
+    file(rt, "long day", name, body)?;
     other_body(
         rt,
-        b"long day, line 8 without BIS",
+        "long day, line 8 without BIS",
         name,
         body,
         158,
@@ -39,7 +39,7 @@ pub(crate) fn long_day(rt: &impl Print, name: &[u8], body: &[u8]) -> io::Result<
     )?;
     other_name(
         rt,
-        b"long day's body under a short day's name",
+        "long day's body under a short day's name",
         name,
         body,
         38,
@@ -48,7 +48,7 @@ pub(crate) fn long_day(rt: &impl Print, name: &[u8], body: &[u8]) -> io::Result<
     )?;
     other_date(
         rt,
-        b"long day's lines on a short day",
+        "long day's lines on a short day",
         name,
         body,
         b"20210328",

@@ -4,46 +4,46 @@ use std::io;
 
 // Names with a fault around the parts.
 fn names_in_form(rt: &impl Print, name: &[u8], body: &[u8]) -> io::Result<()> {
-    other_name(rt, b"name prefix in lower case", name, body, 0, 1, b"n")
+    other_name(rt, "name prefix in lower case", name, body, 0, 1, b"n")
 }
 
 // Names with a wrong part in each place.
 fn names_in_parts(rt: &impl Print, name: &[u8], body: &[u8]) -> io::Result<()> {
-    other_name(rt, b"name, ceder in lower case", name, body, 6, 7, b"x")?;
-    other_name(rt, b"name, acquirer with a line", name, body, 21, 22, b"_")
+    other_name(rt, "name, ceder in lower case", name, body, 6, 7, b"x")?;
+    other_name(rt, "name, acquirer with a line", name, body, 21, 22, b"_")
 }
 
 // Names with a wrong date or category.
 fn names_in_date(rt: &impl Print, name: &[u8], body: &[u8]) -> io::Result<()> {
     other_name(
         rt,
-        b"name, 29 February 2021",
+        "name, 29 February 2021",
         name,
         body,
         38,
         46,
         b"20210229",
     )?;
-    other_name(rt, b"name, category with D", name, body, 47, 53, b"13120D")
+    other_name(rt, "name, category with D", name, body, 47, 53, b"13120D")
 }
 
 // Names of the right form that aren't the header's.
 fn other_keys(rt: &impl Print, name: &[u8], body: &[u8]) -> io::Result<()> {
-    other_name(rt, b"name, the next day", name, body, 38, 46, b"20210121")
+    other_name(rt, "name, the next day", name, body, 38, 46, b"20210121")
 }
 
 // Bodies that are empty, or don't end with LF.
 fn bodies(rt: &impl Print, name: &[u8], body: &[u8]) -> io::Result<()> {
-    other_body(rt, b"body empty", name, body, 0, 819, b"")?;
-    other_body(rt, b"body without its last LF", name, body, 818, 819, b"")
+    other_body(rt, "body empty", name, body, 0, 819, b"")?;
+    other_body(rt, "body without its last LF", name, body, 818, 819, b"")
 }
 
 // First lines that are no header.
 fn headers(rt: &impl Print, name: &[u8], body: &[u8]) -> io::Result<()> {
-    other_body(rt, b"header, ceder in lower case", name, body, 2, 3, b"x")?;
+    other_body(rt, "header, ceder in lower case", name, body, 2, 3, b"x")?;
     other_body(
         rt,
-        b"header without its last semicolon",
+        "header without its last semicolon",
         name,
         body,
         49,
@@ -54,15 +54,15 @@ fn headers(rt: &impl Print, name: &[u8], body: &[u8]) -> io::Result<()> {
 
 // More first lines that are no header, with other faults behind some.
 fn more_headers(rt: &impl Print, name: &[u8], body: &[u8]) -> io::Result<()> {
-    other_body(rt, b"header, CR before LF", name, body, 50, 50, b"\r")
+    other_body(rt, "header, CR before LF", name, body, 50, 50, b"\r")
 }
 
 // First lines that are headers, and differ from the name.
 fn differing(rt: &impl Print, name: &[u8], body: &[u8]) -> io::Result<()> {
-    other_body(rt, b"header, another ceder", name, body, 15, 16, b"1")?;
+    other_body(rt, "header, another ceder", name, body, 15, 16, b"1")?;
     other_body(
         rt,
-        b"header, category without C",
+        "header, category without C",
         name,
         body,
         43,
@@ -73,20 +73,20 @@ fn differing(rt: &impl Print, name: &[u8], body: &[u8]) -> io::Result<()> {
 
 // Bodies with a wrong count of lines, other faults among them.
 fn counts(rt: &impl Print, name: &[u8], body: &[u8]) -> io::Result<()> {
-    other_body(rt, b"line 5 left out", name, body, 99, 115, b"")?;
+    other_body(rt, "line 5 left out", name, body, 99, 115, b"")?;
     other_body(
         rt,
-        b"a line more",
+        "a line more",
         name,
         body,
         819,
         819,
         b"24:00;24:30;15;\n",
     )?;
-    other_body(rt, b"two LF at the end", name, body, 819, 819, b"\n")?;
+    other_body(rt, "two LF at the end", name, body, 819, 819, b"\n")?;
     other_body(
         rt,
-        b"a wrong label and a line less",
+        "a wrong label and a line less",
         name,
         body,
         51,
@@ -97,10 +97,10 @@ fn counts(rt: &impl Print, name: &[u8], body: &[u8]) -> io::Result<()> {
 
 // Wrong labels at lines 2, 5 and 49.
 fn labels(rt: &impl Print, name: &[u8], body: &[u8]) -> io::Result<()> {
-    other_body(rt, b"line 2, first label", name, body, 51, 56, b"00:30")?;
+    other_body(rt, "line 2, first label", name, body, 51, 56, b"00:30")?;
     other_body(
         rt,
-        b"line 2, blank after the first semicolon",
+        "line 2, blank after the first semicolon",
         name,
         body,
         57,
@@ -109,7 +109,7 @@ fn labels(rt: &impl Print, name: &[u8], body: &[u8]) -> io::Result<()> {
     )?;
     other_body(
         rt,
-        b"line 5, labels of line 6",
+        "line 5, labels of line 6",
         name,
         body,
         99,
@@ -122,7 +122,7 @@ fn labels(rt: &impl Print, name: &[u8], body: &[u8]) -> io::Result<()> {
 fn more_labels(rt: &impl Print, name: &[u8], body: &[u8]) -> io::Result<()> {
     other_body(
         rt,
-        b"line 49, midnight as 00:00",
+        "line 49, midnight as 00:00",
         name,
         body,
         809,
@@ -133,18 +133,18 @@ fn more_labels(rt: &impl Print, name: &[u8], body: &[u8]) -> io::Result<()> {
 
 // Powers of line 2.
 fn powers_two(rt: &impl Print, name: &[u8], body: &[u8]) -> io::Result<()> {
-    other_body(rt, b"line 2, power 015", name, body, 63, 65, b"015")?;
-    other_body(rt, b"line 2, power +5", name, body, 63, 65, b"+5")?;
-    other_body(rt, b"line 2, power 10000", name, body, 63, 65, b"10000")?;
-    other_body(rt, b"line 2, power empty", name, body, 63, 65, b"")
+    other_body(rt, "line 2, power 015", name, body, 63, 65, b"015")?;
+    other_body(rt, "line 2, power +5", name, body, 63, 65, b"+5")?;
+    other_body(rt, "line 2, power 10000", name, body, 63, 65, b"10000")?;
+    other_body(rt, "line 2, power empty", name, body, 63, 65, b"")
 }
 
 // Powers of line 5.
 fn powers_five(rt: &impl Print, name: &[u8], body: &[u8]) -> io::Result<()> {
-    other_body(rt, b"line 5, power 015", name, body, 111, 113, b"015")?;
+    other_body(rt, "line 5, power 015", name, body, 111, 113, b"015")?;
     other_body(
         rt,
-        b"line 5, blank before the power",
+        "line 5, blank before the power",
         name,
         body,
         111,
@@ -155,19 +155,19 @@ fn powers_five(rt: &impl Print, name: &[u8], body: &[u8]) -> io::Result<()> {
 
 // Powers of line 49.
 fn powers_last(rt: &impl Print, name: &[u8], body: &[u8]) -> io::Result<()> {
-    other_body(rt, b"line 49, power 10000", name, body, 815, 817, b"10000")
+    other_body(rt, "line 49, power 10000", name, body, 815, 817, b"10000")
 }
 
 // Lines that don't end as they should.
 fn line_ends(rt: &impl Print, name: &[u8], body: &[u8]) -> io::Result<()> {
-    other_body(rt, b"line 2, CR before LF", name, body, 66, 66, b"\r")
+    other_body(rt, "line 2, CR before LF", name, body, 66, 66, b"\r")
 }
 
 // Two faults in one body.
 fn order(rt: &impl Print, name: &[u8], body: &[u8]) -> io::Result<()> {
     other_body(
         rt,
-        b"power of line 5, label of line 6",
+        "power of line 5, label of line 6",
         name,
         body,
         111,
@@ -182,7 +182,7 @@ fn lengths(rt: &impl Print, name: &[u8], body: &[u8]) -> io::Result<()> {
     let more_digits = [b'1'; 3278];
     other_body(
         rt,
-        b"body of 4096, a long power",
+        "body of 4096, a long power",
         name,
         body,
         815,
@@ -191,7 +191,7 @@ fn lengths(rt: &impl Print, name: &[u8], body: &[u8]) -> io::Result<()> {
     )?;
     other_body(
         rt,
-        b"body of 4097, a long power",
+        "body of 4097, a long power",
         name,
         body,
         815,
@@ -202,12 +202,12 @@ fn lengths(rt: &impl Print, name: &[u8], body: &[u8]) -> io::Result<()> {
 
 // Empty slices.
 fn empty(rt: &impl Print, name: &[u8], body: &[u8]) -> io::Result<()> {
-    file(rt, b"name empty", b"", body)?;
-    file(rt, b"name and body empty", b"", b"")
+    file(rt, "name empty", b"", body)?;
+    file(rt, "name and body empty", b"", b"")
 }
 
 pub(crate) fn all_cases(rt: &impl Print, name: &[u8], body: &[u8]) -> io::Result<()> {
-    file(rt, b"the guide's file", name, body)?;
+    file(rt, "the guide's file", name, body)?;
     empty(rt, name, body)?;
     names_in_form(rt, name, body)?;
     names_in_parts(rt, name, body)?;

@@ -8,19 +8,10 @@ pub(crate) const LONG_DAY: u32 = 7974;
 
 // The guide's codes and category.
 pub(crate) fn key_on(day: u32) -> Key {
-    let ceder = [
-        b'1', b'7', b'X', b'1', b'0', b'0', b'A', b'1', b'0', b'0', b'R', b'0', b'0', b'0', b'0',
-        b'0',
-    ];
-    let acquirer = [
-        b'1', b'7', b'X', b'1', b'0', b'0', b'A', b'1', b'0', b'0', b'R', b'0', b'0', b'0', b'0',
-        b'1',
-    ];
-    let category = [b'1', b'3', b'1', b'2', b'0', b'C'];
     Key {
-        ceder,
-        acquirer,
-        category,
+        ceder: *b"17X100A100R00000",
+        acquirer: *b"17X100A100R00001",
+        category: *b"13120C",
         day,
     }
 }
@@ -32,11 +23,11 @@ pub(crate) fn noted(day: u32, steps: u32, powers: [u16; 50]) -> Notification {
 
 // The powers of the guide's example, 20 where it leaves lines out.
 pub(crate) fn guide_powers() -> [u16; 50] {
-    [
-        15, 15, 20, 20, 20, 20, 20, 20, 20, 20, 20, 20, 20, 20, 20, 20, 20, 20, 20, 20, 20, 20, 20,
-        20, 20, 20, 20, 20, 20, 20, 20, 20, 20, 20, 20, 20, 20, 20, 20, 20, 20, 20, 20, 20, 20, 20,
-        15, 15, 0, 0,
-    ]
+    let mut powers = [20; 50];
+    powers[..2].fill(15);
+    powers[46..48].fill(15);
+    powers[48..].fill(0);
+    powers
 }
 
 // Powers of every length.
@@ -49,10 +40,9 @@ pub(crate) fn long_powers() -> [u16; 50] {
 }
 
 pub(crate) fn sevens() -> [u16; 50] {
-    [
-        7, 7, 7, 7, 7, 7, 7, 7, 7, 7, 7, 7, 7, 7, 7, 7, 7, 7, 7, 7, 7, 7, 7, 7, 7, 7, 7, 7, 7, 7,
-        7, 7, 7, 7, 7, 7, 7, 7, 7, 7, 7, 7, 7, 7, 7, 7, 7, 7, 0, 0,
-    ]
+    let mut powers = [7; 50];
+    powers[48..].fill(0);
+    powers
 }
 
 pub(crate) fn guide() -> Notification {

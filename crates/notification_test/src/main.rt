@@ -13,21 +13,20 @@ mod reading;
 mod writing;
 
 use files::{LONG_DAY, PLAIN_DAY, guide, long_powers, noted, sevens};
-use printing::put;
 use std::io;
 use writing::write_into;
 
 // A name and a body, as they were written.
 fn show(rt: &impl Print, name: &[u8], body: &[u8]) -> io::Result<()> {
-    put(rt, name)?;
-    put(rt, b"\n")?;
-    put(rt, body)
+    rt.write_all(name)?;
+    println!(rt)?;
+    rt.write_all(body)
 }
 
 fn plain_day(rt: &impl Print) -> io::Result<()> {
     let mut name = [0u8; 57];
     let mut body = [0u8; 819];
-    write_into(rt, b"plain day", guide(), &mut name, &mut body)?;
+    write_into(rt, "plain day", guide(), &mut name, &mut body)?;
     show(rt, &name, &body)?;
     faults::all_cases(rt, &name, &body)
 }
@@ -37,7 +36,7 @@ fn zeros(rt: &impl Print) -> io::Result<()> {
     let mut body = [0u8; 771];
     write_into(
         rt,
-        b"sevens",
+        "sevens",
         noted(PLAIN_DAY, 48, sevens()),
         &mut name,
         &mut body,
@@ -51,7 +50,7 @@ fn long_day(rt: &impl Print) -> io::Result<()> {
     let mut body = [0u8; 869];
     write_into(
         rt,
-        b"long day",
+        "long day",
         noted(LONG_DAY, 50, long_powers()),
         &mut name,
         &mut body,

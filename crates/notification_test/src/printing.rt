@@ -1,115 +1,52 @@
-// Texts, numbers and refusals on standard output, and sums by which texts and notifications are held against each
-// other.
-use notification::{Notification, Reading};
-use refusals::{Refusal, Verdict};
+// Notifications and refusals on standard output, and sums by which texts and notifications are held against each other.
+use notification::Notification;
+use refusals::{Refusal, number_of, place_of};
 use std::io;
 
-pub(crate) fn put(rt: &impl Print, text: &[u8]) -> io::Result<()> {
-    rt.write_all(text)
-}
-
-pub(crate) fn put_number(rt: &impl Print, n: u32) -> io::Result<()> {
-    rt.print(n)
-}
-
-// A text, and a number after it.
-pub(crate) fn put_with(rt: &impl Print, text: &[u8], n: u32) -> io::Result<()> {
-    put(rt, text)?;
-    put_number(rt, n)
-}
-
-// A text, and a length after it.
-pub(crate) fn put_length(rt: &impl Print, text: &[u8], n: usize) -> io::Result<()> {
-    put(rt, text)?;
-    rt.print(n)
-}
-
 pub(crate) fn put_refusal(rt: &impl Print, r: Refusal) -> io::Result<()> {
-    put_with(rt, b"no ", refusals::number_of(r))?;
-    put_with(rt, b" at ", refusals::place_of(r))
+    print!(rt; "no {} at {}", number_of(r), place_of(r))
 }
 
 // A running sum that changes with each value and its place.
 fn mix(sum: u32, value: u32) -> u32 {
-    ((sum as u64 * 257 + value as u64) % 1000000007) as u32
+    ((u64::from(sum) * 257 + u64::from(value)) % 1000000007) as u32
 }
 
-fn mix_byte(sum: u32, byte: u8) -> u32 {
-    mix(sum, byte as u32)
-}
-
-fn mix_power(sum: u32, power: u16) -> u32 {
-    mix(sum, power as u32)
-}
-
-// The sum after a text's bytes.
-pub(crate) fn mixed(before: u32, text: &[u8]) -> u32 {
-    let mut sum = before;
-    let mut i: usize = 0;
-    while i < text.len() {
-        sum = mix_byte(sum, text[i]);
-        i += 1;
-    }
-    sum
-}
-
-// The sum after powers.
-fn mixed_powers(before: u32, powers: &[u16]) -> u32 {
-    let mut sum = before;
-    let mut i: usize = 0;
-    while i < powers.len() {
-        sum = mix_power(sum, powers[i]);
-        i += 1;
-    }
-    sum
+// The sum after bytes or powers.
+pub(crate) fn mixed<T: Copy + Into<u32>>(before: u32, values: &[T]) -> u32 {
+    values
+        .iter()
+        .fold(before, |sum, value| mix(sum, (*value).into()))
 }
 
 // A plain sum, of less than a million.
-fn add(sum: u32, power: u16) -> u32 {
-    ((sum as u64 + power as u64) % 1000000) as u32
-}
-
 fn total(powers: &[u16]) -> u32 {
-    let mut sum = 0;
-    let mut i: usize = 0;
-    while i < powers.len() {
-        sum = add(sum, powers[i]);
-        i += 1;
-    }
-    sum
+    powers.iter().fold(0, |sum, power| {
+        ((u64::from(sum) + u64::from(*power)) % 1000000) as u32
+    })
 }
 
 // The sum over all of a notification: codes, category, day, count of steps and powers.
 fn mark(n: Notification) -> u32 {
     let key = n.key;
-    let ceder = key.ceder;
-    let acquirer = key.acquirer;
-    let category = key.category;
-    let powers = n.powers;
-    let first = mixed(1, &ceder);
-    let second = mixed(first, &acquirer);
-    let third = mixed(second, &category);
-    let fourth = mix(mix(third, key.day), n.steps);
-    mixed_powers(fourth, &powers)
+    let codes = mixed(mixed(1, &key.ceder), &key.acquirer);
+    let day = mix(mixed(codes, &key.category), key.day);
+    mixed(mix(day, n.steps), &n.powers)
 }
 
 pub(crate) fn put_notification(rt: &impl Print, n: Notification) -> io::Result<()> {
-    let powers = n.powers;
-    put_with(rt, b"ok, steps ", n.steps)?;
-    put_with(rt, b", sum ", total(&powers))?;
-    put_with(rt, b", mark ", mark(n))
-}
-
-// Number and place of a refusal as one number, and 0 where there is none.
-fn refused(verdict: Verdict) -> u32 {
-    match verdict {
-        Verdict::Pass => 0,
-        Verdict::No(r) => mix(refusals::number_of(r), refusals::place_of(r)),
-    }
+    print!(rt;
+        "ok, steps {}, sum {}, mark {}",
+        n.steps,
+        total(&n.powers),
+        mark(n)
+    )
 }
 
 // The sum over all of a reading.
-pub(crate) fn sum_of(reading: Reading) -> u32 {
-    let verdict = reading.verdict;
-    mix(mark(reading.notification), refused(verdict))
+pub(crate) fn sum_of(reading: Result<Notification, Refusal>) -> u32 {
+    match reading {
+        Ok(n) => mix(mark(n), 0),
+        Err(r) => mix(number_of(r), place_of(r)),
+    }
 }

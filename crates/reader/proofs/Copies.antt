@@ -1,96 +1,16 @@
 -- Bytes copied one after another: from a place of a text on, and a line in hand that goes on and ends.
 use mathlib.Core.Path.{◌≡◌, sym, ap, ◌∙◌}
 use mathlib.Core.List.{List, [], ◌∷◌, ◌++◌, append-nil, append_assoc}
-use Prim.Native.Nat.{ℕ, suc, ◌+◌, ◌-◌, ◌<◌, ◌≤◌, min}
-use native.Mathlib.Numerals.{add-one}
+use Prim.Native.Nat.{ℕ, suc, ◌+◌, ◌-◌, ◌≤◌, min}
 use native.Mathlib.Omega.{arith}
 use lib.Dec.{leb, ltb}
-use lib.ListN.{length, get_or, take, drop, set, replicate, length-append, length-take, length-drop, drop_of_length-le}
-use lib.Seq.{take-suc, take-suc-set, take_all, take_at, take-take, take-append-add, set_at, append_snoc, length-take-le, get_or-drop}
+use lib.ListN.{length, take, drop, replicate, length-append, length-take, length-drop}
+use lib.Seq.{take_all, take_at, drop_at, take-take, take-append-add, length-take-le}
+use borrow.Rule.Slice.PartMut.{put_mid}
 use borrow.Author.Tests.{leb-true, leb-false, ltb-true, ltb-false}
+use Rattle.std.proofs.lemmas.List.{drop-replicate}
 use Rattle.lists.proofs.Tests.{by_test}
-use Rattle.lists.proofs.Parts.{rest_all}
 use Rattle.reader.specs.InHand.{gone_on}
-
--- ---- a copy: one byte more, and all of them
-
-pub copied_more : (a s : List ℕ) (i x : ℕ) → i < length a → i < length s → x ≡ get_or s i 0 → take i a ≡ take i s
-    → take (i + 1) (set a i x) ≡ take (i + 1) s
-copied_more a s i x h k v e = rw (add-one, take-suc-set a i x h, take-suc s i 0 k, e, v)
-
-pub copied_all : (a s : List ℕ) (n i : ℕ) → length a ≡ n → i ≤ n → n ≤ i → take i a ≡ take i s → a ≡ take n s
-copied_all a s n i l h k e =
-    let m : i ≡ n = omega arith in
-    let t : take n a ≡ take n s = rw m at e in
-    sym (take_all n a (omega arith)) ∙ t
-
--- the bytes from a place on
-module _ (s : List ℕ) (from : ℕ) (a : List ℕ) where
-  pub first_more : (i : ℕ) → i < length a → i < length s - from → take i a ≡ take i (drop from s)
-      → take (i + 1) (set a i (get_or s (from + i) 0)) ≡ take (i + 1) (drop from s)
-  first_more i h k e = copied_more a (drop from s) i (get_or s (from + i) 0) h (rw length-drop k) (sym (get_or-drop from s i 0)) e
-
-  -- its place told the other way round
-  pub after_more : (i : ℕ) → i < length a → i < length s - from → take i a ≡ take i (drop from s)
-      → take (i + 1) (set a i (get_or s (i + from) 0)) ≡ take (i + 1) (drop from s)
-  after_more i h k e =
-      let n : i + from ≡ from + i = omega arith in
-      rw n (first_more i h k e)
-
-  pub first_none : length s - from ≡ 0 → take (length s - from) a ≡ take 64 (drop from s)
-  first_none e = let h : length s ≤ from = omega arith in rw (e, drop_of_length-le s h)
-
-  module _ (i : ℕ) (l : length a ≡ 64) (e : take i a ≡ take i (drop from s)) where
-    pub first_whole : i ≤ length s - from → length s - from ≤ i → i ≤ 64 → take (length s - from) a ≡ take 64 (drop from s)
-    first_whole h k g =
-        let m : i ≡ length s - from = omega arith in
-        let t : take (length s - from) a ≡ take (length s - from) (drop from s) = rw m at e in
-        let o : length (drop from s) ≤ 64 = rw length-drop (omega arith) in
-        t ∙ (rest_all from s ∙ sym (take_all 64 (drop from s) o))
-
-    pub first_held : i ≤ length s - from → 64 ≤ i → i ≤ 64 → take (length s - from) a ≡ take 64 (drop from s)
-    first_held h k g = take_all (length s - from) a (omega arith) ∙ copied_all a (drop from s) 64 i l g k e
-
--- ---- the line in hand, written over LFs
-
-put : (p : List ℕ) (k x : ℕ) → length p ≡ k → k ≤ 64 → set (p ++ replicate (65 - k) 10) k x ≡ (p ++ x ∷ []) ++ replicate (65 - (k + 1)) 10
-put p k x e h =
-    let r : List ℕ = replicate (65 - (k + 1)) 10 in
-    let m : 65 - k ≡ suc (65 - (k + 1)) = omega arith in
-    rw m (set_at p 10 r x k e ∙ sym (append_snoc p x r))
-
-pub line_more : (line text : List ℕ) (k : ℕ) → length line ≡ 64 → k < 64 → text ≡ take k line ++ replicate (65 - k) 10
-    → set text k (get_or line k 0) ≡ take (k + 1) line ++ replicate (65 - (k + 1)) 10
-line_more line text k l h e =
-    let i : k < length line = omega arith in
-    let t : take (k + 1) line ≡ take k line ++ get_or line k 0 ∷ [] = rw add-one (take-suc line k 0 i) in
-    rw (e, t) (put (take k line) k (get_or line k 0) (length-take-le k line (omega arith)) (omega arith))
-
-line_taken : (line text : List ℕ) (k : ℕ) → length line ≡ 64 → k ≤ 64 → text ≡ take k line ++ replicate (65 - k) 10 → take k text ≡ take k line
-line_taken line text k l h e = ap (take k) e ∙ take_at (take k line) (replicate (65 - k) 10) k (length-take-le k line (omega arith))
-
-pub taken_long : (line text : List ℕ) (k : ℕ) → length line ≡ 64 → k ≤ 64 → text ≡ take k line ++ replicate (65 - k) 10 → length (take k text) ≡ k
-taken_long line text k l h e = ap length (line_taken line text k l h e) ∙ length-take-le k line (omega arith)
-
-pub whole_begun : (line text piece : List ℕ) (k : ℕ) → length line ≡ 64 → k ≤ 64 → text ≡ take k line ++ replicate (65 - k) 10
-    → text ≡ (take k text ++ take 0 piece) ++ replicate (65 - k) 10
-whole_begun line text piece k l h e =
-    rw (append-nil, line_taken line text k l h e) e
-
-pub whole_more : (p piece text : List ℕ) (i k : ℕ) → length p + i ≡ k → k < 64 → i < length piece
-    → text ≡ (p ++ take i piece) ++ replicate (65 - k) 10
-    → set text k (get_or piece i 0) ≡ (p ++ take (i + 1) piece) ++ replicate (65 - (k + 1)) 10
-whole_more p piece text i k z h g e =
-    let t : p ++ take (i + 1) piece ≡ (p ++ take i piece) ++ get_or piece i 0 ∷ [] = rw (add-one, take-suc piece i 0 g, append_assoc) in
-    let l : length (p ++ take i piece) ≡ k = rw (length-append, length-take-le i piece (omega arith)) z in
-    rw (e, t) (put (p ++ take i piece) k (get_or piece i 0) l (omega arith))
-
--- the line with its LF
-whole_ended : (p text : List ℕ) (k : ℕ) → length p ≡ k → k ≤ 64 → text ≡ p ++ replicate (65 - k) 10 → take (k + 1) text ≡ p ++ 10 ∷ []
-whole_ended p text k z h e =
-    let m : 65 - k ≡ suc (64 - k) = omega arith in
-    let n : k + 1 ≡ length p + 1 = omega arith in
-    rw (e, m, n) (take-append-add p (10 ∷ replicate (64 - k) 10) 1)
 
 -- no more bytes than there are
 pub take_least : (s : List ℕ) (n m : ℕ) → length s ≡ m → take (min n m) s ≡ take n s
@@ -100,6 +20,39 @@ take_least s n m l =
     let e : min n m ≡ n = omega arith in
     rw e)
     (λ t. let h = leb-false n m t in take_all (min n m) s (omega arith) ∙ sym (take_all n s (omega arith)))
+
+-- ---- the first bytes from a place on, put over 0s
+
+pub first_copied : (s a : List ℕ) (from n : ℕ) → from ≤ length s → n ≡ min (length s - from) 64 → a ≡ take (from + n - from) (drop from s)
+    → take (length s - from) (a ++ drop n (replicate 64 0)) ≡ take 64 (drop from s)
+first_copied s a from n h m e =
+    let p : length (drop from s) ≡ length s - from = length-drop from s in
+    let i : from + n - from ≡ min 64 (length s - from) = omega (arith, m) in
+    let f : a ≡ take 64 (drop from s) = e ∙ (ap (λ (j : ℕ). take j (drop from s)) i ∙ take_least (drop from s) 64 (length s - from) p) in
+    let l : length a ≡ n = rw (f, length-take, p) (omega (arith, m)) in
+    by_test (leb (length s - from) 64)
+    (λ t. let k = leb-true (length s - from) 64 t in take_at a (drop n (replicate 64 0)) (length s - from) (omega arith) ∙ f)
+    (λ t. let k = leb-false (length s - from) 64 t in
+    let u : n ≡ 64 = omega arith in
+    let v : a ++ drop n (replicate 64 0) ≡ a = rw (u, append-nil) in
+    rw v (take_all (length s - from) a (omega arith) ∙ f))
+
+-- ---- the line in hand, put over LFs
+
+put_over : (a b : List ℕ) (n m most y : ℕ) → length a ≡ n
+    → put_mid n (n + m - n) (a ++ drop n (replicate most y)) b ≡ (a ++ b) ++ replicate (most - (n + m)) y
+put_over a b n m most y l =
+    let k : n + m - n ≡ m = omega arith in
+    let j : most - n - m ≡ most - (n + m) = omega arith in
+    let d = drop n (replicate most y) in
+    rw (k, take_at a d n l, drop_at a d n l, drop-replicate n most y, drop-replicate m (most - n) y, j) (sym (append_assoc a b (replicate (most - (n + m)) y)))
+
+-- the line with its LF
+whole_ended : (p text : List ℕ) (k : ℕ) → length p ≡ k → k ≤ 64 → text ≡ p ++ replicate (65 - k) 10 → take (k + 1) text ≡ p ++ 10 ∷ []
+whole_ended p text k z h e =
+    let m : 65 - k ≡ suc (64 - k) = omega arith in
+    let n : k + 1 ≡ length p + 1 = omega arith in
+    rw (e, m, n) (take-append-add p (10 ∷ replicate (64 - k) 10) 1)
 
 -- as many bytes as are held
 module _ (line piece : List ℕ) (held end i : ℕ) (l : length line ≡ 64) (g : end ≤ length piece) (h : i ≤ end) (o : min held 64 + i ≤ 64) where
@@ -129,18 +82,24 @@ module _ (line piece : List ℕ) (held end i : ℕ) (l : length line ≡ 64) (g 
       in
       e ∙ sym f
 
-pub whole_made : (line piece first text : List ℕ) (held end n k i : ℕ) → length line ≡ 64 → end ≤ length piece → n ≡ min held 64
-    → first ≡ take n line ++ replicate (65 - n) 10 → i ≤ end → k ≡ n + i → k ≤ 64 → (i < end → 64 ≤ k)
-    → text ≡ (take n first ++ take i piece) ++ replicate (65 - k) 10
-    → (take (k + 1) text ≡ gone_on (take held line) piece end ++ 10 ∷ []) × ((k ≡ length (gone_on (take held line) piece end)) × (k ≤ 64))
-whole_made line piece first text held end n k i l g a f h z o w e =
-    let m : min held 64 + i ≤ 64 = omega arith in
-    let p = take (min held 64) line ++ take i piece in
-    let q : take n first ++ take i piece ≡ p = rw (line_taken line first n l (omega arith) f, a) in
-    let r : length p ≡ k = kept_long line piece held end i l g h m ∙ (omega arith) in
+pub whole_made : (line piece a b : List ℕ) (held end n m : ℕ) → length line ≡ 64 → end ≤ length piece → n ≡ min held 64 → m ≡ min end (64 - n)
+    → a ≡ take n line → b ≡ take m piece
+    → (take (n + m + 1) (put_mid n (n + m - n) (a ++ drop n (replicate 65 10)) b) ≡ gone_on (take held line) piece end ++ 10 ∷ [])
+    × ((n + m ≡ length (gone_on (take held line) piece end)) × (n + m ≤ 64))
+whole_made line piece a b held end n m l g o w e f =
+    let h : m ≤ end = omega arith in
+    let u : min held 64 + m ≤ 64 = omega arith in
+    let u2 : n + m ≤ 64 = omega arith in
+    let p = take (min held 64) line ++ take m piece in
+    let r : length p ≡ n + m = kept_long line piece held end m l g h u ∙ (omega arith) in
+    let q : a ++ b ≡ p = rw (e, f, o) in
     let y : p ≡ gone_on (take held line) piece end =
-    by_test (ltb i end)
-    (λ t. let u = w (ltb-true i end t) in kept_held line piece held end i l g h m (omega arith))
-    (λ t. kept_whole line piece held end i l g h m (ltb-false i end t))
+    by_test (ltb m end)
+    (λ t. let v = ltb-true m end t in kept_held line piece held end m l g h u (omega arith))
+    (λ t. kept_whole line piece held end m l g h u (ltb-false m end t))
     in
-    (rw (← y) (whole_ended p text k r o (rw q at e)), (rw (← y) (sym r), o))
+    let z : length a ≡ n = rw (e, length-take, l) (omega (arith, o)) in
+    let x : put_mid n (n + m - n) (a ++ drop n (replicate 65 10)) b ≡ p ++ replicate (65 - (n + m)) 10 =
+    put_over a b n m 65 10 z ∙ ap (λ (s : List ℕ). s ++ replicate (65 - (n + m)) 10) q
+    in
+    (rw (← y) (whole_ended p (put_mid n (n + m - n) (a ++ drop n (replicate 65 10)) b) (n + m) r u2 x), (rw (← y) (sym r), u2))

@@ -1,14 +1,17 @@
 -- The lines of a text from a place on, by where the first of them ends.
 use mathlib.Core.Path.{◌≡◌, refl, sym, ap, ◌∙◌}
-use mathlib.Core.Bool.{Bool, true, false, ◌||◌}
-use mathlib.Core.List.{List, [], ◌∷◌, ◌++◌}
+use mathlib.Core.Bool.{Bool, true, false, cond, ◌||◌}
+use mathlib.Core.List.{List, [], ◌∷◌, ◌++◌, reverse}
 use Prim.Native.Nat.{ℕ, suc, ◌+◌, ◌-◌, ◌<◌, ◌≤◌}
 use native.Mathlib.Numerals.{add-one}
 use native.Mathlib.Omega.{arith}
 use lib.Dec.{ltb, eqb}
-use lib.ListN.{length, get_or, take, drop, length-take, length-drop, take-append-drop, drop_of_length-le}
+use lib.ListN.{length, get_or, take, drop, length-take, length-drop, take-append-drop}
 use lib.Seq.{drop-cons, drop-drop, get_or-drop, take_all}
-use borrow.Author.Tests.{not-true, eqb-true, ne_eqb, lt-ltb, ltb-false}
+use borrow.Author.Tests.{not-true, eqb-true, lt-ltb, le-ltb, ltb-true, ltb-false}
+use Rattle.std.specs.Prelude.{Option, Some, None}
+use Rattle.std.specs.List.{position_or_len}
+use Rattle.std.proofs.lemmas.List.{reverse-append, reverse-reverse, length-reverse}
 use Rattle.lists.specs.Searches.{every, place_of, is_byte, byte_from}
 use Rattle.lists.proofs.Tests.{by_test, and_left, and_right, and_true}
 use Rattle.lists.proofs.Places.{place_passes}
@@ -106,30 +109,66 @@ line_ends s {from} {r} h e =
           ap (λ (i : ℕ). get_or s i 0) e ∙ (sym (get_or-drop from s n 0) ∙ b);
     }
 
--- ---- the last LF from a place on, searched from the end
+-- ---- the last LF of a text, searched from the end
 
-pub all_in : (s : List ℕ) → every in_line (drop (length s) s) ≡ true
-all_in s = let h : length s ≤ length s = omega arith in rw (drop_of_length-le s h)
+abbrev pub is_break : ℕ → Bool
+is_break b = eqb b 10
 
-pub back_in : (s : List ℕ) (i : ℕ) → 0 < i → i ≤ length s → (get_or s (i - 1) 0 ≡ 10 → ⊥) → every in_line (drop i s) ≡ true → every in_line (drop (i - 1) s) ≡ true
-back_in s i p h f e =
-    let n : suc (i - 1) ≡ i = omega arith in
-    let l : i - 1 < length s = omega arith in
-    let d : drop (i - 1) s ≡ get_or s (i - 1) 0 ∷ drop i s = rw n at (drop-cons s (i - 1) 0 l) in
-    let g : in_line (get_or s (i - 1) 0) ≡ true = rw (ne_eqb (get_or s (i - 1) 0) 10 f) in
-    rw d (and_true (in_line (get_or s (i - 1) 0)) (every in_line (drop i s)) g e)
+whole_one_more : (s : List ℕ) (b : ℕ) → whole_to (s ++ b ∷ []) ≡ cond (is_break b) (length s + 1) (whole_to s)
+unfolding whole_to
+whole_one_more [] b = by_test (eqb b 10) (λ t. rw t) (λ t. rw t)
+whole_one_more (a ∷ s) b =
+    by_test (eqb b 10)
+    (λ t. let w : whole_to (s ++ b ∷ []) ≡ length s + 1 = whole_one_more s b ∙ rw t in
+    let h : 0 < length s + 1 = omega arith in
+    rw (w, t, lt-ltb 0 (length s + 1) h, or_true (eqb a 10)) (omega arith))
+    (λ t. let w : whole_to (s ++ b ∷ []) ≡ whole_to s = whole_one_more s b ∙ rw t in rw (w, t))
+  where
+    or_true : (a : Bool) → (a || true) ≡ true
+    or_true true = refl
+    or_true false = refl
 
-pub rest_found : (s : List ℕ) (from i : ℕ) → from < i → i ≤ length s → get_or s (i - 1) 0 ≡ 10 → every in_line (drop i s) ≡ true → i ≡ from + whole_to (drop from s)
-rest_found s from i a h b e =
-    let n : i - 1 + 1 ≡ i = omega arith in
-    let l : i - 1 < length s = omega arith in
-    let w : from + whole_to (drop from s) ≡ i + whole_to (drop i s) = rw n at (whole_past s from (i - 1) (omega arith) l b) in
-    omega (arith, w, none_whole (drop i s) e)
+-- in a text read backwards it stands at the place that the search gives
+module _ (s : List ℕ) where
+  abbrev pub back : ℕ
+  back = position_or_len is_break (reverse s)
 
-pub rest_none : (s : List ℕ) (from i : ℕ) → from ≤ i → i ≤ from → every in_line (drop i s) ≡ true → from ≡ from + whole_to (drop from s)
-rest_none s from i a b e =
-    let n : i ≡ from = omega arith in
-    omega (arith, none_whole (drop from s) (rw n at e))
+  abbrev pub search_back : Option ℕ
+  search_back = cond (ltb back (length (reverse s))) (Some back) None
+
+whole_backwards : (s : List ℕ) → whole_to (reverse s) ≡ cond (ltb (position_or_len is_break s) (length s)) (length s - position_or_len is_break s) 0
+unfolding whole_to
+whole_backwards [] = refl
+whole_backwards (b ∷ s) =
+    let w : whole_to (reverse (b ∷ s)) ≡ cond (is_break b) (length (reverse s) + 1) (whole_to (reverse s)) = ap whole_to (reverse-append (b ∷ []) s) ∙ whole_one_more (reverse s) b in
+    let p = position_or_len is_break s in
+    by_test (is_break b)
+    (λ t. let h : 0 < suc (length s) = omega arith in
+    w ∙ rw (t, length-reverse s, lt-ltb 0 (suc (length s)) h) (omega arith))
+    (λ t. by_test (ltb p (length s))
+    (λ u. let h : 1 + p < suc (length s) = omega (arith, ltb-true p (length s) u) in
+    w ∙ rw (t, whole_backwards s, u, lt-ltb (1 + p) (suc (length s)) h) (omega arith))
+    (λ u. let h : suc (length s) ≤ 1 + p = omega (arith, ltb-false p (length s) u) in
+    w ∙ rw (t, whole_backwards s, u, le-ltb (1 + p) (suc (length s)) h)))
+
+whole_back : (s : List ℕ) → whole_to s ≡ cond (ltb (back s) (length (reverse s))) (length (reverse s) - back s) 0
+whole_back s = rw reverse-reverse at (whole_backwards (reverse s))
+
+pub break_found : (s : List ℕ) (i : ℕ) → Some i ≡ search_back s → (i < length s) × (whole_to s ≡ length s - i)
+break_found s i e =
+    by_test (ltb (back s) (length (reverse s)))
+    (λ t. let n : i ≡ back s = (let f : Some i ≡ Some (back s) = e ∙ rw t in cc) in
+    let h = ltb-true (back s) (length (reverse s)) t in
+    let l = length-reverse s in
+    let w : whole_to s ≡ length (reverse s) - back s = whole_back s ∙ rw t in
+    (omega arith, omega arith))
+    (λ t. let f : Some i ≡ None = e ∙ rw t in cc)
+
+pub break_lost : (s : List ℕ) → None ≡ search_back s → whole_to s ≡ 0
+break_lost s e =
+    by_test (ltb (back s) (length (reverse s)))
+    (λ t. let f : None ≡ Some (back s) = e ∙ rw t in cc)
+    (λ t. whole_back s ∙ rw t)
 
 -- ---- the lines of steps, taken one after another
 

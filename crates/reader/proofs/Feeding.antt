@@ -2,30 +2,31 @@
 use mathlib.Core.Path.{◌≡◌, refl, sym, ap, ◌∙◌}
 use mathlib.Core.Bool.{Bool, true, false, not, ◌&&◌, ◌||◌}
 use mathlib.Core.List.{List, [], ◌∷◌, ◌++◌}
-use Prim.Native.Nat.{ℕ, ◌+◌, ◌<◌, ◌≤◌, min}
+use Prim.Native.Nat.{ℕ, ◌+◌, ◌-◌, ◌<◌, ◌≤◌, min}
 use native.Mathlib.Omega.{arith}
 use lib.Dec.{leb, ltb, eqb}
 use lib.ListN.{length, take, drop, length-append, length-take}
 use lib.Seq.{take_at, take-take, length-take-le}
 use mir.Val.{Val}
 use denote.Laws.{Is}
-use borrow.Author.Tests.{eqb-true, eqb-false, leb-true, leb-false, ltb-true, ltb-false, le-ltb, lt-ltb, le-leb, lt-leb, ne_eqb}
+use borrow.Author.Tests.{not-true, not-false, eqb-true, eqb-false, leb-true, leb-false, ltb-true, ltb-false, le-leb, lt-leb, ne_eqb}
 use Rattle.lists.specs.Searches.{byte_from}
-use Rattle.lists.proofs.Tests.{by_test, true_false, or_left, or_right, or_cases}
+use Rattle.lists.proofs.Tests.{by_test, or_left, or_right, or_cases}
 use Rattle.calendar.specs.Steps.{steps_of}
 use Rattle.calendar.proofs.StepCounts.{steps_small}
+use Rattle.std.specs.Prelude.{⊤, cond, Result, Ok, Err, Some, None}
 use Rattle.refusals.specs.Tests.{input}
 use Rattle.refusals.specs.declared.InputRefusal.TheVariants.{Name, Body}
+use Rattle.refusals.specs.declared.Refusal.{Refusal}
 use Rattle.notification.specs.Forms.{places}
 use Rattle.notification.specs.Writing.{header_of}
-use Rattle.notification.specs.Reading.{name_key, is_name, refused}
+use Rattle.notification.specs.Reading.{name_key, is_name}
 use Rattle.notification.specs.declared.Key.{Key}
-use Rattle.notification.specs.declared.Reading.{Reading}
+use Rattle.notification.specs.declared.Notification.{Notification}
 use Rattle.notification.proofs.Tested.{and_none}
-use Rattle.reader.specs.Parts.{found, no_key, name_read}
+use Rattle.reader.specs.Parts.{name_read}
 use Rattle.reader.specs.Folding.{FileTaken, with_powers, no_lines, take_text, rest_of_text, concluded}
 use Rattle.reader.specs.InHand.{InHand, in_hand, fresh_with, begun, length_with, has_name, counts, walked, gone_on, continued, fed, key_of, ended}
-use Rattle.reader.specs.declared.keys.KeyRead.{KeyRead}
 use Rattle.reader.specs.declared.pieces.FileReader.{FileReader}
 use Rattle.reader.specs.contracts.pieces.FileReader as reader
 use Rattle.reader.proofs.Copies.{take_least}
@@ -46,30 +47,30 @@ fresh_made header day steps e =
     let n : min steps places ≡ steps_of day = omega (arith, e, steps_small day) in
     rw n
 
-module _ (name : List ℕ) (x : KeyRead) (e : x ≡ name_read name) where
-  pub named : x.good ≡ true → (is_name name ≡ true) × (x.key ≡ name_key name)
+module _ (name : List ℕ) where
+  pub named : (k : Key) → Some k ≡ name_read name → (is_name name ≡ true) × (k ≡ name_key name)
   unfolding name_read
-  named g =
+  named k e =
       by_test (is_name name)
-      (λ t. let f : x ≡ found (name_key name) = e ∙ rw t in (t, ap (λ (y : KeyRead). y.key) f))
-      (λ t. let f : x ≡ no_key = e ∙ rw t in true_false x.good g (ap (λ (y : KeyRead). y.good) f))
+      (λ t. let f : Some k ≡ Some (name_key name) = e ∙ rw t in (t, cc))
+      (λ t. let f : Some k ≡ None = e ∙ rw t in cc)
 
-  unnamed : x.good ≡ false → is_name name ≡ false
+  unnamed : None ≡ name_read name → is_name name ≡ false
   unfolding name_read
-  unnamed g =
+  unnamed e =
       by_test (is_name name)
-      (λ t. let f : x ≡ found (name_key name) = e ∙ rw t in true_false x.good (ap (λ (y : KeyRead). y.good) f) g)
+      (λ t. let f : None ≡ Some (name_key name) = e ∙ rw t in cc)
       (λ t. t)
 
-  pub begun_unnamed : (r : InHand) → x.good ≡ false → r ≡ fresh_with [] 0 → r ≡ begun name
+  pub begun_unnamed : (r : InHand) → None ≡ name_read name → r ≡ fresh_with [] 0 → r ≡ begun name
   unfolding begun
-  begun_unnamed r g p = rw (unnamed g) p
+  begun_unnamed r e p = rw (unnamed e) p
 
-  pub begun_named : (r : InHand) (header : List ℕ) → x.good ≡ true → header ≡ header_of (name_key name) ++ 10 ∷ []
-      → r ≡ fresh_with header x.key.day → r ≡ begun name
+  pub begun_named : (r : InHand) (header : List ℕ) (k : Key) → Some k ≡ name_read name → header ≡ header_of (name_key name) ++ 10 ∷ []
+      → r ≡ fresh_with header k.day → r ≡ begun name
   unfolding begun
-  begun_named r header g p q =
-      let a = named g in rw a.0 (q ∙ rw (p, a.1))
+  begun_named r header k e p q =
+      let a = named k e in rw a.0 (q ∙ rw (p, a.1))
 
 -- ---- a reader's name
 
@@ -139,7 +140,7 @@ module _ (self : FileReader) (l : length self.header ≡ 51) (n s : ℕ) (a : n 
 -- a line in hand that only grows
 pub line_grown : (self : FileReader) (total : ℕ) (piece text line : List ℕ) (end k : ℕ) → end ≡ byte_from 10 piece 0 → length piece ≤ end
     → take (k + 1) text ≡ gone_on (take self.held self.line) piece end ++ 10 ∷ []
-    → (k ≡ length (gone_on (take self.held self.line) piece end)) × (k ≤ 64) → line ≡ take 64 text
+    → (k ≡ length (gone_on (take self.held self.line) piece end)) × (k ≤ 64) → take (length text - 0) line ≡ take 64 text
     → record {
       day = self.day;
       steps = min self.steps places;
@@ -152,9 +153,11 @@ pub line_grown : (self : FileReader) (total : ℕ) (piece text line : List ℕ) 
 unfolding continued
 line_grown self total piece text line end k w h e o f =
     let g = gone_on (take self.held self.line) piece end in
+    let m : k ≤ length text - 0 = omega (arith, ap length e, length-take (k + 1) text, length-append g (10 ∷ []), o.0) in
     let p : take k line ≡ g =
-    ap (take k) f
-    ∙ (take-take k 64 text o.1 ∙ (sym (take-take k (k + 1) text (omega arith)) ∙ (ap (take k) e ∙ take_at g (10 ∷ []) k (sym o.0))))
+    sym (take-take k (length text - 0) line m)
+    ∙ (ap (take k) f
+    ∙ (take-take k 64 text o.1 ∙ (sym (take-take k (k + 1) text (omega arith)) ∙ (ap (take k) e ∙ take_at g (10 ∷ []) k (sym o.0)))))
     in
     rw (← w, le-leb (length piece) end h, p)
 
@@ -204,41 +207,34 @@ module _ (self : FileReader) (piece : List ℕ) (total : ℕ) (l : length self.h
 
 -- ---- the end
 
-over_not : (m n : ℕ) → leb m n ≡ not (ltb n m)
-over_not m n = by_test (ltb n m) (λ t. rw (lt-leb m n (ltb-true n m t), t)) (λ t. rw (le-leb m n (ltb-false n m t), t))
+-- what is known of a test after it was tried
+pub is_met : {E : Type 0} (t : Bool) (e d : E) → ◌≡◌ {A = Result ⊤ E} (Err d) (cond t (Err e) (Ok tt)) → (t ≡ true) × (d ≡ e)
+is_met true e d f = (refl, cc)
+is_met false e d f = cc
 
-some_not : (n : ℕ) → ltb 0 n ≡ not (ltb n 1)
-some_not n =
-    by_test (ltb n 1)
-    (λ t. let h = ltb-true n 1 t in rw (t, le-ltb 0 n (omega arith)))
-    (λ t. let h = ltb-false n 1 t in rw (t, lt-ltb 0 n (omega arith)))
+pub is_unmet : {E : Type 0} (t : Bool) (e : E) (u : ⊤) → ◌≡◌ {A = Result ⊤ E} (Ok u) (cond t (Err e) (Ok tt)) → t ≡ false
+is_unmet true e u f = cc
+is_unmet false e u f = refl
 
-all_not : (a b c : Bool) → (not a && not b && c) ≡ not (a || b || not c)
-all_not true b c = refl
-all_not false true c = refl
-all_not false false true = refl
-all_not false false false = refl
+abbrev pub whole : FileReader → Bool
+whole self = leb 1 self.length && leb self.length 4096 && eqb self.held 0
 
 module _ (self : FileReader) (l : length self.header ≡ 51) where
-  pub ended_unnamed : (r : Reading) → self.named < 50 → r ≡ refused (input Name) → r ≡ ended (in_hand self)
+  pub ended_unnamed : ltb self.named 50 ≡ true → Err (input Name) ≡ ended (in_hand self)
   unfolding ended
-  ended_unnamed r h e = rw (no_name self.header self.named l h) e
+  ended_unnamed t = rw (no_name self.header self.named l (ltb-true self.named 50 t))
 
-  module _ (m : length self.line ≡ 64) (h : 50 ≤ self.named) where
-    body_test : (ltb 0 self.length && leb self.length 4096 && eqb (length (take self.held self.line)) 0)
-        ≡ not (ltb self.length 1 || ltb 4096 self.length || not (eqb self.held 0))
-    body_test =
-        rw (some_not self.length, over_not self.length 4096, line_empty self.line self.held m)
-        (all_not (ltb self.length 1) (ltb 4096 self.length) (eqb self.held 0))
+  module _ (m : length self.line ≡ 64) (h : ltb self.named 50 ≡ false) where
+    its_name : has_name (take self.named self.header) ≡ true
+    its_name = has_name_lem self.header self.named l (ltb-false self.named 50 h)
 
-    pub ended_body : (r : Reading) → (ltb self.length 1 || ltb 4096 self.length || not (eqb self.held 0)) ≡ true
-        → r ≡ refused (input Body) → r ≡ ended (in_hand self)
+    pub ended_body : not (whole self) ≡ true → Err (input Body) ≡ ended (in_hand self)
     unfolding ended
-    ended_body r t e = rw (has_name_lem self.header self.named l h, body_test, t) e
+    ended_body t = rw (its_name, line_empty self.line self.held m, not-true (whole self) t)
 
-    pub ended_lines : (r : Reading) (key : Key) (n s : ℕ) → (ltb self.length 1 || ltb 4096 self.length || not (eqb self.held 0)) ≡ false
+    pub ended_lines : (r : Result Notification Refusal) (key : Key) (n s : ℕ) → not (whole self) ≡ false
         → n ≡ min self.named 51 → s ≡ min self.steps 50 → key ≡ key_of (take n self.header) self.day
         → r ≡ concluded key s (with_powers self.tally self.powers) → r ≡ ended (in_hand self)
     unfolding ended
     ended_lines r key n s t a b k e =
-        rw (has_name_lem self.header self.named l h, body_test, t) (e ∙ rw (k, b, its_header self l n s a b))
+        rw (its_name, line_empty self.line self.held m, not-false (whole self) t) (e ∙ rw (k, b, its_header self l n s a b))

@@ -14,54 +14,53 @@ use Rattle.lists.proofs.Digits.{value_byte, digit_value_lem}
 use Rattle.notification.specs.Forms.{digits, power_end}
 use Rattle.notification.specs.Writing.{power_text}
 use Rattle.reader.specs.Walking.{leading_power, TailSays}
-use Rattle.reader.specs.declared.power.Power.{Power}
-use Rattle.reader.specs.declared.power.Power.TheVariants.{Is, Not}
+use Rattle.std.specs.Prelude.{Option, Some, None}
 
 -- ---- the ways through five bytes, as a reader goes them
 
 module _ (a b c d e : ℕ) where
-  pub no_first : (x : ℕ) → x ≡ digit_value a → 9 < x → Not ≡ leading_power a b c d e
+  pub no_first : (x : ℕ) → x ≡ digit_value a → 9 < x → None ≡ leading_power a b c d e
   unfolding leading_power
   no_first x p h = rw (← p, lt-ltb 9 x h)
 
-  pub one_digit : (x : ℕ) → x ≡ digit_value a → x ≤ 9 → b ≡ 59 → Is x 2 ≡ leading_power a b c d e
+  pub one_digit : (x : ℕ) → x ≡ digit_value a → x ≤ 9 → b ≡ 59 → Some (x, 2) ≡ leading_power a b c d e
   unfolding leading_power
   one_digit x p h q = rw (← p, le-ltb 9 x h, eq-eqb b 59 q)
 
   module _ (x y : ℕ) (p : x ≡ digit_value a) (h : x ≤ 9) (q : b ≡ 59 → ⊥) (r : y ≡ digit_value b) where
-    pub no_second : 9 < y → Not ≡ leading_power a b c d e
+    pub no_second : 9 < y → None ≡ leading_power a b c d e
     unfolding leading_power
     no_second k = rw (← p, ← r, le-ltb 9 x h, ne_eqb b 59 q, lt-ltb 9 y k)
 
-    pub needless : y ≤ 9 → x ≡ 0 → Not ≡ leading_power a b c d e
+    pub needless : y ≤ 9 → x ≡ 0 → None ≡ leading_power a b c d e
     unfolding leading_power
     needless k z = rw (← p, ← r, le-ltb 9 x h, ne_eqb b 59 q, le-ltb 9 y k, eq-eqb x 0 z)
 
     module _ (k : y ≤ 9) (z : x ≡ 0 → ⊥) where
-      pub two_digits : c ≡ 59 → Is (x * 10 + y) 3 ≡ leading_power a b c d e
+      pub two_digits : c ≡ 59 → Some (x * 10 + y, 3) ≡ leading_power a b c d e
       unfolding leading_power
       two_digits g = rw (← p, ← r, le-ltb 9 x h, ne_eqb b 59 q, le-ltb 9 y k, ne_eqb x 0 z, eq-eqb c 59 g)
 
       module _ (g : c ≡ 59 → ⊥) (u : ℕ) (m : u ≡ digit_value c) where
-        pub no_third : 9 < u → Not ≡ leading_power a b c d e
+        pub no_third : 9 < u → None ≡ leading_power a b c d e
         unfolding leading_power
         no_third l = rw (← p, ← r, ← m, le-ltb 9 x h, ne_eqb b 59 q, le-ltb 9 y k, ne_eqb x 0 z, ne_eqb c 59 g, lt-ltb 9 u l)
 
         module _ (l : u ≤ 9) where
-          pub three_digits : d ≡ 59 → Is ((x * 10 + y) * 10 + u) 4 ≡ leading_power a b c d e
+          pub three_digits : d ≡ 59 → Some ((x * 10 + y) * 10 + u, 4) ≡ leading_power a b c d e
           unfolding leading_power
           three_digits f = rw (← p, ← r, ← m, le-ltb 9 x h, ne_eqb b 59 q, le-ltb 9 y k, ne_eqb x 0 z, ne_eqb c 59 g, le-ltb 9 u l, eq-eqb d 59 f)
 
           module _ (f : d ≡ 59 → ⊥) (w : ℕ) (n : w ≡ digit_value d) where
-            pub no_fourth : 9 < w → Not ≡ leading_power a b c d e
+            pub no_fourth : 9 < w → None ≡ leading_power a b c d e
             unfolding leading_power
             no_fourth o = rw (← p, ← r, ← m, ← n, le-ltb 9 x h, ne_eqb b 59 q, le-ltb 9 y k, ne_eqb x 0 z, ne_eqb c 59 g, le-ltb 9 u l, ne_eqb d 59 f, lt-ltb 9 w o)
 
-            pub four_digits : w ≤ 9 → e ≡ 59 → Is (((x * 10 + y) * 10 + u) * 10 + w) 5 ≡ leading_power a b c d e
+            pub four_digits : w ≤ 9 → e ≡ 59 → Some (((x * 10 + y) * 10 + u) * 10 + w, 5) ≡ leading_power a b c d e
             unfolding leading_power
             four_digits o i = rw (← p, ← r, ← m, ← n, le-ltb 9 x h, ne_eqb b 59 q, le-ltb 9 y k, ne_eqb x 0 z, ne_eqb c 59 g, le-ltb 9 u l, ne_eqb d 59 f, le-ltb 9 w o, eq-eqb e 59 i)
 
-            pub no_end : w ≤ 9 → (e ≡ 59 → ⊥) → Not ≡ leading_power a b c d e
+            pub no_end : w ≤ 9 → (e ≡ 59 → ⊥) → None ≡ leading_power a b c d e
             unfolding leading_power
             no_end o i = rw (← p, ← r, ← m, ← n, le-ltb 9 x h, ne_eqb b 59 q, le-ltb 9 y k, ne_eqb x 0 z, ne_eqb c 59 g, le-ltb 9 u l, ne_eqb d 59 f, le-ltb 9 w o, ne_eqb e 59 i)
 
@@ -97,9 +96,9 @@ pub record Text (s : List ℕ) (v n : ℕ) : Type 0 where
   pub end : get_or s (n - 1) 0 ≡ 59
   pub text : take n s ≡ power_text v
 
-abbrev Says : List ℕ → Power → Type 0
-Says s (Is v n) = Text s v n
-Says s Not = Unit {0}
+abbrev Says : List ℕ → Option (ℕ × ℕ) → Type 0
+Says s (Some (v, n)) = Text s v n
+Says s None = Unit {0}
 
 module _ (a b c d e : ℕ) where
   abbrev five : List ℕ
@@ -171,7 +170,7 @@ module _ (a b c d e : ℕ) where
 abbrev pub firsts : List ℕ → List ℕ
 firsts s = get_or s 0 0 ∷ get_or s 1 0 ∷ get_or s 2 0 ∷ get_or s 3 0 ∷ get_or s 4 0 ∷ []
 
-abbrev pub power_in : List ℕ → Power
+abbrev pub power_in : List ℕ → Option (ℕ × ℕ)
 power_in s = leading_power (get_or s 0 0) (get_or s 1 0) (get_or s 2 0) (get_or s 3 0) (get_or s 4 0)
 
 same_byte : (s : List ℕ) (i : ℕ) → i < 5 → get_or (firsts s) i 0 ≡ get_or s i 0
@@ -197,7 +196,7 @@ there s i e =
     by_test (ltb i (length s)) (λ t. ltb-true i (length s) t)
     (λ t. absurd (omega (arith, get_or-eq_default s 0 (ltb-false i (length s) t))))
 
-pub power_sound : (s : List ℕ) (v n : ℕ) → power_in s ≡ Is v n → (v < power_end) × (n ≤ length s) × (take n s ≡ power_text v)
+pub power_sound : (s : List ℕ) (v n : ℕ) → power_in s ≡ Some (v, n) → (v < power_end) × (n ≤ length s) × (take n s ≡ power_text v)
 power_sound s v n e =
     let t : Text (firsts s) v n = rw e at (says (get_or s 0 0) (get_or s 1 0) (get_or s 2 0) (get_or s 3 0) (get_or s 4 0)) in
     let l = t.least in
@@ -208,16 +207,16 @@ power_sound s v n e =
 
 -- ---- the text of a power is found
 
-pub power_found : (v : ℕ) (rest : List ℕ) → v < power_end → power_in (power_text v ++ rest) ≡ Is v (length (power_text v))
+pub power_found : (v : ℕ) (rest : List ℕ) → v < power_end → power_in (power_text v ++ rest) ≡ Some (v, length (power_text v))
 power_found v rest h =
     by_test (ltb v 10) (λ t. one (ltb-true v 10 t))
     (λ t. by_test (ltb v 100) (λ u. two (ltb-false v 10 t) (ltb-true v 100 u))
     (λ u. by_test (ltb v 1000) (λ w. three (ltb-false v 100 u) (ltb-true v 1000 w)) (λ w. four (ltb-false v 1000 w))))
   where
-    one : v < 10 → power_in (power_text v ++ rest) ≡ Is v (length (power_text v))
+    one : v < 10 → power_in (power_text v ++ rest) ≡ Some (v, length (power_text v))
     one l = rw (digits_one v l) (sym (one_digit (48 + v) 59 (get_or rest 0 0) (get_or rest 1 0) (get_or rest 2 0) v (sym (digit_value_lem v l)) (omega arith) refl))
 
-    two : 10 ≤ v → v < 100 → power_in (power_text v ++ rest) ≡ Is v (length (power_text v))
+    two : 10 ≤ v → v < 100 → power_in (power_text v ++ rest) ≡ Some (v, length (power_text v))
     two k l =
         let p : v / 10 < 10 = omega arith in
         let q : v % 10 < 10 = omega arith in
@@ -225,7 +224,7 @@ power_found v rest h =
         let r = two_digits (48 + v / 10) (48 + v % 10) 59 (get_or rest 0 0) (get_or rest 1 0) (v / 10) (v % 10) (sym (digit_value_lem (v / 10) p)) (omega arith) (λ (z : 48 + v % 10 ≡ 59). omega arith) (sym (digit_value_lem (v % 10) q)) (omega arith) (λ (z : v / 10 ≡ 0). omega arith) refl in
         rw (digits_two v k l) (sym (rw e at r))
 
-    three : 100 ≤ v → v < 1000 → power_in (power_text v ++ rest) ≡ Is v (length (power_text v))
+    three : 100 ≤ v → v < 1000 → power_in (power_text v ++ rest) ≡ Some (v, length (power_text v))
     three k l =
         let p : v / 100 < 10 = omega arith in
         let q : v / 10 % 10 < 10 = omega arith in
@@ -234,7 +233,7 @@ power_found v rest h =
         let r = three_digits (48 + v / 100) (48 + v / 10 % 10) (48 + v % 10) 59 (get_or rest 0 0) (v / 100) (v / 10 % 10) (sym (digit_value_lem (v / 100) p)) (omega arith) (λ (z : 48 + v / 10 % 10 ≡ 59). omega arith) (sym (digit_value_lem (v / 10 % 10) q)) (omega arith) (λ (z : v / 100 ≡ 0). omega arith) (λ (z : 48 + v % 10 ≡ 59). omega arith) (v % 10) (sym (digit_value_lem (v % 10) o)) (omega arith) refl in
         rw (digits_three v k l) (sym (rw e at r))
 
-    four : 1000 ≤ v → power_in (power_text v ++ rest) ≡ Is v (length (power_text v))
+    four : 1000 ≤ v → power_in (power_text v ++ rest) ≡ Some (v, length (power_text v))
     four k =
         let p : v / 1000 < 10 = omega arith in
         let q : v / 100 % 10 < 10 = omega arith in
@@ -246,9 +245,9 @@ power_found v rest h =
 
 -- ---- a power, `;` and LF in six bytes
 
-pub tail_says : (a b c d e f v n g : ℕ) (r : Power) → r ≡ cond (eqb g 10) (Is v n) Not → Is v (n - 13) ≡ leading_power a b c d e
+pub tail_says : (a b c d e f v n g : ℕ) (r : Option (ℕ × ℕ)) → r ≡ cond (eqb g 10) (Some (v, n)) None → Some (v, n - 13) ≡ leading_power a b c d e
     → get_or (a ∷ b ∷ c ∷ d ∷ e ∷ f ∷ []) (n - 13) 0 ≡ g → 15 ≤ n → n ≤ 18 → TailSays a b c d e f r
 tail_says a b c d e f v n g r p q w m l =
     by_test (eqb g 10)
-    (λ t. let i : r ≡ Is v n = p ∙ rw t in rw i (record { power = q; break = w ∙ eqb-true g 10 t; more = m; few = l }))
-    (λ t. let i : r ≡ Not = p ∙ rw t in rw i tt)
+    (λ t. let i : r ≡ Some (v, n) = p ∙ rw t in rw i (record { power = q; break = w ∙ eqb-true g 10 t; more = m; few = l }))
+    (λ t. let i : r ≡ None = p ∙ rw t in rw i tt)

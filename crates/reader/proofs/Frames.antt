@@ -9,14 +9,14 @@ use lib.Dec.{ltb, eqb}
 use lib.ListN.{length, get_or, take, drop, length-append, length-drop, take-append-drop, drop_of_length-le}
 use lib.Seq.{take_at, drop_at, split_at, drop-drop, get_or-drop, get_or_at}
 use borrow.Author.Tests.{eqb-true, not-true, not-false}
+use Rattle.std.specs.Prelude.{Option, None, is_some}
 use Rattle.lists.specs.Searches.{same}
 use Rattle.lists.proofs.Tests.{by_test, true_false, and_left, and_right}
 use Rattle.lists.proofs.Searches.{same_refl, same_true}
 use Rattle.notification.specs.Writing.{key_text, name_of, header_of, formed}
 use Rattle.notification.specs.Reading.{key_in, name_key, header_key, valid_key, is_name, is_header}
-use Rattle.reader.specs.Parts.{no_key, is_key, key_read, marked, name_read}
+use Rattle.reader.specs.Parts.{is_key, key_read, marked, name_read}
 use Rattle.notification.specs.declared.Key.{Key}
-use Rattle.reader.specs.declared.keys.KeyRead.{KeyRead}
 use Rattle.notification.proofs.Lengths.{header_length, name_length}
 use Rattle.notification.proofs.Names.{name_back}
 
@@ -35,7 +35,7 @@ same_ended s u t =
     (λ b. let e = cancel s u t (same_true (s ++ t) (u ++ t) b) in true_false (same s u) (rw e (same_refl u)) a)
     (λ b. b ∙ sym a))
 
-pub read_good : (by : ℕ) (s : List ℕ) → (key_read by s).good ≡ is_key by s
+pub read_good : (by : ℕ) (s : List ℕ) → is_some (key_read by s) ≡ is_key by s
 unfolding key_read
 read_good by s = by_test (is_key by s) (λ t. rw t) (λ t. rw t)
 
@@ -92,7 +92,7 @@ marks_back name end t =
 marks_made : (name : List ℕ) (end : ℕ) → Marks name end → marked name end ≡ true
 marks_made name end m = rw (m.n, m.e, m.r, m.by, m.dot, m.c, m.s, m.v)
 
-pub name_few : (name : List ℕ) → length name < 8 → no_key ≡ name_read name
+pub name_few : (name : List ℕ) → length name < 8 → None ≡ name_read name
 unfolding name_read
 name_few name h =
     by_test (is_name name)
@@ -140,7 +140,7 @@ module _ (name : List ℕ) (end : ℕ) (h : 8 ≤ length name) (z : end + 4 ≡ 
         v = at 3;
       }
 
-  pub name_unmarked : (t : Bool) → t ≡ marked name end → not t ≡ true → no_key ≡ name_read name
+  pub name_unmarked : (t : Bool) → t ≡ marked name end → not t ≡ true → None ≡ name_read name
   unfolding name_read
   name_unmarked t p q =
       by_test (is_name name)
@@ -160,7 +160,7 @@ module _ (name : List ℕ) (end : ℕ) (h : 8 ≤ length name) (z : end + 4 ≡ 
       same_framed : (k : Key) → same (78 ∷ 69 ∷ 82 ∷ 95 ∷ (inside ++ ending)) (name_of k) ≡ same inside (key_text 95 k)
       same_framed k = unfold name_of same in same_ended inside (key_text 95 k) ending
 
-  pub name_marked : (t : Bool) (r : KeyRead) → t ≡ marked name end → not t ≡ false → r ≡ key_read 95 inside → r ≡ name_read name
+  pub name_marked : (t : Bool) (r : Option Key) → t ≡ marked name end → not t ≡ false → r ≡ key_read 95 inside → r ≡ name_read name
   unfolding name_read key_read
   name_marked t r p q e =
       let m = marks_back name end (sym p ∙ not-false t q) in
@@ -206,7 +206,7 @@ module _ (l : List ℕ) (end : ℕ) (z : end + 1 ≡ length l) where
   unfolding header_of
   same_header k = same_ended (take end l) (key_text 59 k) (59 ∷ [])
 
-  pub header_inside : (b : Bool) → get_or l end 0 ≡ 59 → b ≡ (key_read 59 (take end l)).good → b ≡ is_header l
+  pub header_inside : (b : Bool) → get_or l end 0 ≡ 59 → b ≡ is_some (key_read 59 (take end l)) → b ≡ is_header l
   unfolding is_header is_key
   header_inside b e p =
       let k = key_in (take end l) in

@@ -13,7 +13,7 @@ use Rattle.notification.specs.Writing.{label_text, labels_text, power_text}
 use Rattle.notification.specs.Reading.{lines_in, has_labels, rest_of, is_power}
 use Rattle.reader.specs.Walking.{six_at, times_text, half_hours, mark_of, Plain, LineAt}
 use Rattle.reader.specs.Folding.{Taken, take_step, take_steps, RunOn}
-use Rattle.reader.specs.declared.power.Power.TheVariants.{Is}
+use Rattle.std.specs.Prelude.{Some}
 use Rattle.reader.specs.declared.tally.Tally.{Tally}
 use Rattle.notification.proofs.Lines.{lines_first}
 use Rattle.notification.proofs.Breaks.{line_in}
@@ -73,7 +73,7 @@ good_taken steps t ps s at r v p h e g b =
 
 module _ (steps k : ℕ) (s : List ℕ) (at v n : ℕ) (h : k < steps) (g : steps ≤ places)
     (l : LineAt s at (mark_of steps k) (mark_of steps (k + 1)) v n) where
-  power_here : power_in (drop (at + 12) s) ≡ Is v (n - 13)
+  power_here : power_in (drop (at + 12) s) ≡ Some (v, n - 13)
   power_here =
       rw (
         get_or-drop (at + 12) s 0 0,

@@ -12,8 +12,8 @@ use Rattle.lists.specs.Searches.{every, same, byte_from}
 use Rattle.lists.proofs.Tests.{by_test, true_false, right_false, and_left, and_right}
 use Rattle.lists.proofs.Searches.{same_refl, same_true}
 use Rattle.refusals.specs.declared.Refusal.{Refusal}
-use Rattle.refusals.specs.declared.Verdict.TheVariants.{No}
-use Rattle.notification.specs.Reading.{is_header, lines_in, refused}
+use Rattle.std.specs.Prelude.{Err}
+use Rattle.notification.specs.Reading.{is_header, lines_in}
 use Rattle.notification.specs.declared.Key.{Key}
 use Rattle.reader.specs.Walking.{starts_with, rest_in}
 use Rattle.reader.specs.Folding.{
@@ -112,7 +112,7 @@ module _ (steps : ℕ) where
 
   module _ (key : Key) where
     pub concluded_no : (x : FileTaken) (r : Refusal) (ls : List (List ℕ)) → eqb x.header 0 ≡ false → eqb x.header 1 ≡ false
-        → header_said x.header ≡ No r → concluded key steps (take_lines steps x ls) ≡ refused r
+        → header_said x.header ≡ Err r → concluded key steps (take_lines steps x ls) ≡ Err r
     unfolding concluded
     concluded_no x r ls e f s = rw (refused_stays x ls e f, s)
 

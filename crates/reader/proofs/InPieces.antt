@@ -16,11 +16,13 @@ use Rattle.lists.specs.Searches.{every, byte_from}
 use Rattle.lists.proofs.Tests.{by_test, and_left, and_right, and_true}
 use Rattle.lists.proofs.Searches.{every_append, every_take}
 use Rattle.calendar.specs.Steps.{steps_of}
+use Rattle.std.specs.Prelude.{Result}
+use Rattle.refusals.specs.declared.Refusal.{Refusal}
 use Rattle.notification.specs.Forms.{six_bytes}
 use Rattle.notification.specs.Writing.{key_text, header_of, formed}
 use Rattle.notification.specs.Reading.{key_in, name_key, is_name, lines_in, body_most, is_body, read_file}
 use Rattle.notification.specs.declared.Key.{Key}
-use Rattle.notification.specs.declared.Reading.{Reading}
+use Rattle.notification.specs.declared.Notification.{Notification}
 use Rattle.reader.specs.Walking.{whole_to, rest_in}
 use Rattle.reader.specs.Folding.{FileTaken, no_lines, take_text}
 use Rattle.reader.specs.InHand.{
@@ -374,7 +376,7 @@ pub cut_anywhere : (name : List ℕ) (ps qs : List (List ℕ)) → joined_pieces
 cut_anywhere name ps qs e = in_pieces name ps ∙ ap (read_file name) e ∙ sym (in_pieces name qs)
 
 -- a body in one piece
-pub one_piece : (name body : List ℕ) (b f : FileReader) (r : Reading) → in_hand b ≡ begun name → in_hand f ≡ fed (in_hand b) body → r ≡ ended (in_hand f)
+pub one_piece : (name body : List ℕ) (b f : FileReader) (r : Result Notification Refusal) → in_hand b ≡ begun name → in_hand f ≡ fed (in_hand b) body → r ≡ ended (in_hand f)
     → r ≡ read_file name body
 unfolding fed_all
 one_piece name body b f r p q e =
@@ -392,8 +394,8 @@ pub data Fed : List ℕ → List (List ℕ) → FileReader → Type 1 where
       Fed name (ps ++ a.1.0.now ∷ []) b
 
 -- its end, and what that gives
-pub data Ends : FileReader → Reading → Type 1 where
-  ends : (a : World.ArgsD end-fn.signature tt) (r : Reading) (s : Clauses.AtExit (Kinds.ended_of 0 end-kinds.ps end-kinds.r) tt) →
+pub data Ends : FileReader → Result Notification Refusal → Type 1 where
+  ends : (a : World.ArgsD end-fn.signature tt) (r : Result Notification Refusal) (s : Clauses.AtExit (Kinds.ended_of 0 end-kinds.ps end-kinds.r) tt) →
       (end_reads.Asked tt a → end_reads.Post tt a r s) → Ends a.0 r
 
 -- NONE OF THE THREE ASKS ANYTHING OF ITS CALLER
@@ -417,15 +419,15 @@ fed_is (feeds {name = name} {ps = ps} κs a b s f e) =
     let p = a.1.0.now in
     e (asks_nothing.feed κs a) ∙ ap (λ (x : InHand). fed x p) (fed_is f) ∙ sym (fed_last (begun name) ps p)
 
-pub ends_is : {b : FileReader} {r : Reading} → Ends b r → r ≡ ended (in_hand b)
+pub ends_is : {b : FileReader} {r : Result Notification Refusal} → Ends b r → r ≡ ended (in_hand b)
 ends_is (ends a r s e) = e (asks_nothing.end a)
 
 -- THE THEOREM: however many pieces a file reader was fed, its end gives what reading their join whole gives
-pub read_in_pieces : {name : List ℕ} {ps : List (List ℕ)} {b : FileReader} {r : Reading} → Fed name ps b → Ends b r
+pub read_in_pieces : {name : List ℕ} {ps : List (List ℕ)} {b : FileReader} {r : Result Notification Refusal} → Fed name ps b → Ends b r
     → r ≡ read_file name (joined_pieces ps)
 read_in_pieces {name} {ps} f e = ends_is e ∙ ap ended (fed_is f) ∙ in_pieces name ps
 
 -- so two readers of one file, cut in two ways, end alike
-pub cut_anywhere_of_code : {name : List ℕ} {ps qs : List (List ℕ)} {b c : FileReader} {r t : Reading} → Fed name ps b → Ends b r
+pub cut_anywhere_of_code : {name : List ℕ} {ps qs : List (List ℕ)} {b c : FileReader} {r t : Result Notification Refusal} → Fed name ps b → Ends b r
     → Fed name qs c → Ends c t → joined_pieces ps ≡ joined_pieces qs → r ≡ t
 cut_anywhere_of_code {name} f e g h j = read_in_pieces f e ∙ ap (read_file name) j ∙ sym (read_in_pieces g h)

@@ -16,9 +16,9 @@ use Rattle.notification.specs.Forms.{places}
 use Rattle.notification.specs.Writing.{label_text, labels_text, power_text}
 use Rattle.notification.specs.Reading.{has_labels, rest_of, power_value, is_power}
 use Rattle.reader.specs.Walking.{starts_with, leading_power, line_power}
-use Rattle.reader.specs.declared.power.Power.{Power}
-use Rattle.reader.specs.declared.power.Power.TheVariants.{Is, Not}
-use Rattle.reader.specs.declared.tally.LinePower.TheVariants.{Gives, NoLabels, NoPower}
+use Rattle.std.specs.Prelude.{Option, Some, None}
+use Rattle.reader.specs.declared.tally.StepFault.TheVariants.{NoLabels, NoPower}
+use Rattle.std.specs.Prelude.{Ok, Err}
 use Rattle.notification.proofs.Powers.{value_power, power_made, power_back}
 use Rattle.reader.proofs.Figures.{power_in, power_sound, power_found}
 use Rattle.reader.proofs.Starts.{starts_append, starts_long}
@@ -35,7 +35,12 @@ label_few steps at = by_test (again_at steps at) (λ t. rw t (omega arith)) (λ 
 
 -- ---- a power, exactly
 
-pub power_whole : (s : List ℕ) (v n : ℕ) → power_in s ≡ Is v n → n ≡ length s → (is_power s ≡ true) × (power_value s ≡ v)
+-- how many bytes were said to be a power and `;`
+abbrev its_length : Option (ℕ × ℕ) → ℕ
+its_length (Some (v, n)) = n
+its_length None = 0
+
+pub power_whole : (s : List ℕ) (v n : ℕ) → power_in s ≡ Some (v, n) → n ≡ length s → (is_power s ≡ true) × (power_value s ≡ v)
 power_whole s v n e h =
     let p = power_sound s v n e in
     let t : s ≡ power_text v = sym (take_all n s (omega arith)) ∙ p.2 in
@@ -45,11 +50,11 @@ append_nil : (s : List ℕ) → s ++ [] ≡ s
 append_nil [] = refl
 append_nil (x ∷ s) = ap (λ (t : List ℕ). x ∷ t) (append_nil s)
 
-pub power_only : (s : List ℕ) → is_power s ≡ true → power_in s ≡ Is (power_value s) (length s)
+pub power_only : (s : List ℕ) → is_power s ≡ true → power_in s ≡ Some (power_value s, length s)
 power_only s e =
     let p = power_back s e in
     let v = power_value s in
-    let f : power_in (power_text v) ≡ Is v (length (power_text v)) = rw append_nil at (power_found v [] p.0) in
+    let f : power_in (power_text v) ≡ Some (v, length (power_text v)) = rw append_nil at (power_found v [] p.0) in
     rw (← p.1) at f
 
 -- ---- the labels that the calendar gives
@@ -104,12 +109,12 @@ module _ (steps k : ℕ) (line : List ℕ) (l : Labels) (h : k < steps) (g : ste
 
   -- ---- the ways through a line, as a reader goes them
 
-  pub no_from : (t : Bool) → t ≡ starts_with first line → not t ≡ true → NoLabels ≡ line_power steps k line
+  pub no_from : (t : Bool) → t ≡ starts_with first line → not t ≡ true → Err NoLabels ≡ line_power steps k line
   unfolding line_power
   no_from t p q = rw (has_texts, ← p, not-true t q)
 
   module _ (t u : Bool) (p : t ≡ starts_with first line) (q : not t ≡ false) (r : u ≡ starts_with second (drop (l.from.len + 1) line)) where
-    pub no_until : not u ≡ true → NoLabels ≡ line_power steps k line
+    pub no_until : not u ≡ true → Err NoLabels ≡ line_power steps k line
     unfolding line_power
     no_until f = rw (has_texts, ← p, ← r, not-false t q, not-true u f)
 
@@ -120,7 +125,7 @@ module _ (steps k : ℕ) (line : List ℕ) (l : Labels) (h : k < steps) (g : ste
       has_both : has_labels steps k line ≡ true
       has_both = rw (has_texts, ← p, ← r, not-false t q, not-false u f)
 
-      abbrev found : Power
+      abbrev found : Option (ℕ × ℕ)
       found = leading_power (get_or line at 0) (get_or line (at + 1) 0) (get_or line (at + 2) 0) (get_or line (at + 3) 0) (get_or line (at + 4) 0)
 
       found_rest : power_in (rest_of steps k line) ≡ found
@@ -134,30 +139,30 @@ module _ (steps k : ℕ) (line : List ℕ) (l : Labels) (h : k < steps) (g : ste
       line_long =
           omega (arith, second_length, length-drop (l.from.len + 1) line, starts_long second (drop (l.from.len + 1) line) (sym r ∙ not-false u f))
 
-      pub line_holds : (v n : ℕ) → Is v n ≡ found → at + n ≤ length line
+      pub line_holds : (v n : ℕ) → Some (v, n) ≡ found → at + n ≤ length line
       line_holds v n o =
           omega (arith, rest_length, line_long, (power_sound (rest_of steps k line) v n (found_rest ∙ sym o)).1)
 
-      pub line_gives : (v n : ℕ) → Is v n ≡ found → at + n ≡ length line → Gives v ≡ line_power steps k line
+      pub line_gives : (v n : ℕ) → Some (v, n) ≡ found → at + n ≡ length line → Ok v ≡ line_power steps k line
       unfolding line_power
       line_gives v n o m =
           let w = power_whole (rest_of steps k line) v n (found_rest ∙ sym o) (omega (arith, rest_length)) in
           rw (has_both, w.0, w.1)
 
-      pub line_longer : (v n : ℕ) → Is v n ≡ found → (at + n ≡ length line → ⊥) → NoPower ≡ line_power steps k line
+      pub line_longer : (v n : ℕ) → Some (v, n) ≡ found → (at + n ≡ length line → ⊥) → Err NoPower ≡ line_power steps k line
       unfolding line_power
       line_longer v n o m =
           by_test (is_power (rest_of steps k line))
-          (λ b. let d : Is v n ≡ Is (power_value (rest_of steps k line)) (length (rest_of steps k line)) = o ∙ (sym found_rest ∙ power_only (rest_of steps k line) b) in
-          let c : n ≡ length (rest_of steps k line) = cc in
+          (λ b. let d : Some (v, n) ≡ Some (power_value (rest_of steps k line), length (rest_of steps k line)) = o ∙ (sym found_rest ∙ power_only (rest_of steps k line) b) in
+          let c : n ≡ length (rest_of steps k line) = ap its_length d in
           absurd (m (omega (arith, rest_length, line_long))))
           (λ b. rw (has_both, b))
 
-      pub line_none : Not ≡ found → NoPower ≡ line_power steps k line
+      pub line_none : None ≡ found → Err NoPower ≡ line_power steps k line
       unfolding line_power
       line_none o =
           by_test (is_power (rest_of steps k line))
-          (λ b. let d : Not ≡ Is (power_value (rest_of steps k line)) (length (rest_of steps k line)) = o ∙ (sym found_rest ∙ power_only (rest_of steps k line) b) in
+          (λ b. let d : None ≡ Some (power_value (rest_of steps k line), length (rest_of steps k line)) = o ∙ (sym found_rest ∙ power_only (rest_of steps k line) b) in
           let z : ◌≡◌ {A = ℕ} 0 1 = cc in
           absurd (omega arith))
           (λ b. rw (has_both, b))

@@ -13,21 +13,20 @@ use Rattle.lists.proofs.Tests.{by_test, true_false, and_left, and_right, and_tru
 use Rattle.lists.proofs.Searches.{same_refl, same_true}
 use Rattle.lists.proofs.Parts.{drop_past}
 use Rattle.calendar.specs.Texts.{text_of, day_of}
-use Rattle.calendar.specs.declared.texts.Day.{Day}
-use Rattle.calendar.specs.declared.texts.Day.TheVariants.{Number, NoDay}
+use Rattle.std.specs.Prelude.{Option, Some, None}
 use Rattle.calendar.proofs.TwoWays.{read_text}
 use Rattle.notification.specs.Forms.{is_code, is_category, filled, six_bytes, category_text}
 use Rattle.notification.specs.Writing.{key_text, formed}
 use Rattle.notification.specs.Reading.{day_number, key_in, valid_key}
-use Rattle.reader.specs.Parts.{no_key, found, is_key, key_read}
+use Rattle.reader.specs.Parts.{is_key, key_read}
 use Rattle.notification.proofs.Lengths.{date_length, formed_parts, key_length}
 use Rattle.notification.proofs.Stored.{filled_all, six_back}
 
 -- ---- a date that was read
 
-day_text : (t : List ℕ) (d : Day) → day_of t ≡ d → day_number d < 36525 → text_of (day_number d) ≡ t
-day_text t (Number n) e h = sym (read_text t n e).1
-day_text t NoDay e h = absurd (omega arith)
+day_text : (t : List ℕ) (d : Option ℕ) → day_of t ≡ d → day_number d < 36525 → text_of (day_number d) ≡ t
+day_text t (Some n) e h = sym (read_text t n e).1
+day_text t None e h = absurd (omega arith)
 
 -- ---- the parts
 
@@ -103,14 +102,14 @@ module _ (by : ℕ) (s : List ℕ) where
 
   -- ---- the ways through a text, as a reader goes them
 
-  pub read_none : (Parts by s → ⊥) → no_key ≡ key_read by s
+  pub read_none : (Parts by s → ⊥) → None ≡ key_read by s
   unfolding key_read
   read_none f = by_test (is_key by s) (λ t. absurd (f (key_parts t))) (λ t. rw t)
 
-  pub read_short : length s < 48 → no_key ≡ key_read by s
+  pub read_short : length s < 48 → None ≡ key_read by s
   read_short h = read_none (λ p. omega (arith, p.least))
 
-  pub read_long : 49 < length s → no_key ≡ key_read by s
+  pub read_long : 49 < length s → None ≡ key_read by s
   read_long h = read_none (λ p. omega (arith, p.most))
 
   abbrev parted : Bool
@@ -120,18 +119,18 @@ module _ (by : ℕ) (s : List ℕ) where
   right a b c = parted && a && b && c
 
   module _ (a b c : Bool) (p : a ≡ is_code (take 16 s)) (q : b ≡ is_code (take 16 (drop 17 s))) (r : c ≡ is_category (drop 43 s)) where
-    pub read_wrong : not (right a b c) ≡ true → no_key ≡ key_read by s
+    pub read_wrong : not (right a b c) ≡ true → None ≡ key_read by s
     read_wrong e =
         read_none
         (λ x. let t : right a b c ≡ true = rw (p, q, r, eq-eqb (get_or s 16 0) by x.first_parted, eq-eqb (get_or s 33 0) by x.second_parted, eq-eqb (get_or s 42 0) by x.third_parted, x.a_ceder, x.an_acquirer, x.a_category) in
         true_false (right a b c) t (not-true (right a b c) e))
 
     module _ (h : 48 ≤ length s) (k : length s ≤ 49) (e : not (right a b c) ≡ false) where
-      pub read_no_day : day_of (take 8 (drop 34 s)) ≡ NoDay → no_key ≡ key_read by s
-      read_no_day d = read_none (λ x. let l : day_number NoDay < 36525 = rw d at x.a_day in omega arith)
+      pub read_no_day : day_of (take 8 (drop 34 s)) ≡ None → None ≡ key_read by s
+      read_no_day d = read_none (λ x. let l : day_number None < 36525 = rw d at x.a_day in omega arith)
 
-      key_found : (n : ℕ) → day_of (take 8 (drop 34 s)) ≡ Number n
-          → found (record { ceder = take 16 s; acquirer = take 16 (drop 17 s); category = six_bytes (drop 43 s); day = n }) ≡ key_read by s
+      key_found : (n : ℕ) → day_of (take 8 (drop 34 s)) ≡ Some n
+          → Some (record { ceder = take 16 s; acquirer = take 16 (drop 17 s); category = six_bytes (drop 43 s); day = n }) ≡ key_read by s
       unfolding key_read key_in
       key_found n d =
           let g = not-false (right a b c) e in
@@ -155,11 +154,11 @@ module _ (by : ℕ) (s : List ℕ) where
           } in
           rw (parts_key x, d)
 
-      pub read_key : (n : ℕ) → day_of (take 8 (drop 34 s)) ≡ Number n → (x y z : List ℕ) → x ≡ filled 16 (take 16 s) →
+      pub read_key : (n : ℕ) → day_of (take 8 (drop 34 s)) ≡ Some n → (x y z : List ℕ) → x ≡ filled 16 (take 16 s) →
           y ≡ filled 16 (take 16 (drop 17 s)) → z ≡ six_bytes (drop 43 s) →
-          found (record { ceder = x; acquirer = y; category = z; day = n }) ≡ key_read by s
+          Some (record { ceder = x; acquirer = y; category = z; day = n }) ≡ key_read by s
       read_key n d x y z ex ey ez =
           let m = length-drop 17 s in
           let ceder : x ≡ take 16 s = ex ∙ filled_all 16 (take 16 s) (length-take-le 16 s (omega arith)) in
           let acquirer : y ≡ take 16 (drop 17 s) = ey ∙ filled_all 16 (take 16 (drop 17 s)) (length-take-le 16 (drop 17 s) (omega arith)) in
-          (λ i. found (record { ceder = ceder i; acquirer = acquirer i; category = ez i; day = n })) ∙ key_found n d
+          (λ i. Some (record { ceder = ceder i; acquirer = acquirer i; category = ez i; day = n })) ∙ key_found n d

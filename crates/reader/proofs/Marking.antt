@@ -15,8 +15,7 @@ use Rattle.calendar.specs.Labels.{turn_of, minute_of, again_at, label_of}
 use Rattle.notification.specs.Forms.{places}
 use Rattle.notification.specs.Writing.{label_text}
 use Rattle.reader.specs.Walking.{six_at, four_at, six, no_mark, time_mark, times_text, half_hours, mark_of, Plain, LineAt, TailSays, LineSays}
-use Rattle.reader.specs.declared.power.Power.{Power}
-use Rattle.reader.specs.declared.power.Power.TheVariants.{Is, Not}
+use Rattle.std.specs.Prelude.{Option, Some, None}
 
 -- ---- the marks, as a reader makes them
 
@@ -277,12 +276,12 @@ six_byte s p (suc (suc (suc (suc (suc zero))))) h = refl
 six_byte s p (suc (suc (suc (suc (suc (suc i)))))) h = absurd (omega arith)
 
 -- what is said of the six bytes after the marks is said of the line
-pub line_says_lem : (s : List ℕ) (at from until d e f : ℕ) (r : Power) → ((i : ℕ) → get_or s i 0 < 256)
+pub line_says_lem : (s : List ℕ) (at from until d e f : ℕ) (r : Option (ℕ × ℕ)) → ((i : ℕ) → get_or s i 0 < 256)
     → (six_at s at ≡ from) × (six_at s (at + 6) ≡ until)
     → d ≡ get_or s (at + 12 + 3) 0 → e ≡ get_or s (at + 12 + 4) 0 → f ≡ get_or s (at + 12 + 5) 0
     → TailSays (get_or s (at + 12) 0) (get_or s (at + 12 + 1) 0) (get_or s (at + 12 + 2) 0) d e f r → LineSays s at from until r
-line_says_lem s at from until d e f Not h m x y z t = tt
-line_says_lem s at from until d e f (Is v n) h m x y z t =
+line_says_lem s at from until d e f None h m x y z t = tt
+line_says_lem s at from until d e f (Some (v, n)) h m x y z t =
     let u = rw (x, y, z) at t in
     let g = u.more in
     let k = u.few in

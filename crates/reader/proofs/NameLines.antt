@@ -4,7 +4,7 @@ use mathlib.Core.Bool.{true}
 use mathlib.Core.List.{List, [], ◌∷◌, ◌++◌, append_assoc}
 use Prim.Native.Nat.{ℕ, ◌+◌, ◌-◌, ◌<◌, ◌≤◌}
 use native.Mathlib.Omega.{arith}
-use lib.ListN.{length, get_or, take, drop, set, length-append, length-drop, length-set}
+use lib.ListN.{length, get_or, take, drop, set, length-append, length-take, length-drop, length-set}
 use lib.Seq.{take-suc, take-suc-set, take_at, take-add, drop_at, take-set-lt, take-set-le, set_at, set-append_left, length-take-le, get_or-drop}
 use Rattle.calendar.specs.Texts.{text_of}
 use Rattle.notification.specs.Forms.{filled, six_bytes, category_text}
@@ -80,11 +80,19 @@ module _ (name : List ℕ) (t : is_name name ≡ true) where
       let q : take n (drop 4 name) ≡ s = ap (take n) name_rest ∙ take_at s z n (omega (arith, text_long)) in
       ap semicolons q ∙ key_parted its_key (name_back name t).its_form
 
-  module _ (h : List ℕ) (i : ℕ) (l : length h ≡ 51) (a : i ≤ 48) (b : 48 ≤ i) (e : take i h ≡ take i (drop 4 name)) where
+  module _ (parts : List ℕ) (e : parts ≡ take 48 (drop 4 name)) where
+    abbrev h : List ℕ
+    h = parts ++ 0 ∷ 0 ∷ 0 ∷ []
+
+    parts_long : length parts ≡ 48
+    parts_long = let g = name_long in rw (e, length-take, length-drop) (omega (arith, g.0))
+
+    l : length h ≡ 51
+    l = rw length-append (omega (arith, parts_long))
+
     header_first : take 48 (semicolons h) ≡ semicolons (take 48 (drop 4 name))
     header_first =
-        let m : i ≡ 48 = omega arith in
-        let q : take 48 h ≡ take 48 (drop 4 name) = rw m at e in
+        let q : take 48 h ≡ take 48 (drop 4 name) = take_at parts (0 ∷ 0 ∷ 0 ∷ []) 48 parts_long ∙ e in
         take-set-lt 48 (set (set h 16 59) 33 59) 42 59 (omega arith)
         ∙ (ap (λ (s : List ℕ). set s 42 59)
         (take-set-lt 48 (set h 16 59) 33 59 (omega arith) ∙ ap (λ (s : List ℕ). set s 33 59) (take-set-lt 48 h 16 59 (omega arith)))

@@ -12,10 +12,12 @@ use lib.Seq.{take-take, take-append_seam}
 use Rattle.lists.specs.Searches.{byte_from}
 use Rattle.lists.proofs.Tests.{by_test}
 use Rattle.calendar.proofs.StepCounts.{steps_small}
+use Rattle.std.specs.Prelude.{Result}
+use Rattle.refusals.specs.declared.Refusal.{Refusal}
 use Rattle.notification.specs.Forms.{filled, places}
 use Rattle.notification.specs.Writing.{header_of}
 use Rattle.notification.specs.Reading.{name_key, is_name, lines_in, body_most}
-use Rattle.notification.specs.declared.Reading.{Reading}
+use Rattle.notification.specs.declared.Notification.{Notification}
 use Rattle.reader.specs.Walking.{line_power}
 use Rattle.reader.specs.Folding.{
   Taken,
@@ -33,8 +35,9 @@ use Rattle.reader.specs.Folding.{
 }
 use Rattle.reader.specs.InHand.{InHand, in_hand, begun, length_with, has_name, counts, walked, gone_on, continued, fed, ended}
 use Rattle.reader.specs.declared.pieces.FileReader.{FileReader}
-use Rattle.reader.specs.declared.tally.LinePower.{LinePower}
-use Rattle.reader.specs.declared.tally.LinePower.TheVariants.{Gives, NoLabels, NoPower}
+use Rattle.reader.specs.declared.tally.StepFault.{StepFault}
+use Rattle.reader.specs.declared.tally.StepFault.TheVariants.{NoLabels, NoPower}
+use Rattle.std.specs.Prelude.{Result, Ok, Err}
 use Rattle.notification.proofs.Lengths.{header_between}
 use Rattle.notification.proofs.Names.{name_back}
 use Rattle.notification.proofs.Stored.{filled_length}
@@ -45,10 +48,10 @@ use Rattle.reader.proofs.InPieces.{fed_none, fed_first, fed_on, Fed, begins, fee
 abbrev count : FileTaken → ℕ
 count x = length x.steps.powers
 
-judged_count : (x : Taken) (said : LinePower) → length (judged first_line x said).powers ≡ length x.powers
-judged_count x (Gives p) = length-set x.powers x.tally.lines p
-judged_count x NoLabels = refl
-judged_count x NoPower = refl
+judged_count : (x : Taken) (said : Result ℕ StepFault) → length (judged first_line x said).powers ≡ length x.powers
+judged_count x (Ok p) = length-set x.powers x.tally.lines p
+judged_count x (Err NoLabels) = refl
+judged_count x (Err NoPower) = refl
 
 module _ (steps : ℕ) where
   step_count_lem : (x : Taken) (l : List ℕ) → length (take_step steps x l).powers ≡ length x.powers
@@ -177,7 +180,7 @@ run_on name qs (p ∷ ps) x f d =
     rw append_assoc at (run_on name (qs ++ p ∷ []) ps y g (feeds ([], tt) (keeping x, (ref p, tt)) (keeping y) (keeping x, (ref p, tt)) d (λ t. e)))
 
 -- WHATEVER THE NAME AND THE PIECES, THERE IS A RUN, and its end gives a result
-pub every_cut_runs : (name : List ℕ) (ps : List (List ℕ)) → (d : Run name ps) × ((r : Reading) × Ends d.reader r)
+pub every_cut_runs : (name : List ℕ) (ps : List (List ℕ)) → (d : Run name ps) × ((r : Result Notification Refusal) × Ends d.reader r)
 every_cut_runs name ps =
     let x = begun name in
     let f = begun_fits name in

@@ -1,73 +1,60 @@
 -- What is kept after all steps, however they are told, is what the table says of them: their number, the first fault, the powers.
 use mathlib.Core.Path.{◌≡◌, refl, sym, ap, subst, ◌∙◌}
-use mathlib.Core.Bool.{true, false, cond, not, ◌&&◌}
+use mathlib.Core.Bool.{Bool, true, false, cond, not, ◌&&◌}
 use mathlib.Core.List.{List, [], ◌∷◌, ◌++◌}
 use Prim.Native.Nat.{ℕ, zero, suc, ◌+◌, ◌-◌, ◌<◌, ◌≤◌, min}
 use native.Mathlib.Nat.{zero-add}
-use native.Mathlib.Numerals.{add-one}
 use native.Mathlib.Omega.{arith}
 use lib.Dec.{eqb}
-use lib.ListN.{length, get_or, drop, replicate, set, length-replicate, drop_of_length-le}
-use lib.Seq.{drop-cons, sets, sets-eq}
+use lib.ListN.{length, drop, replicate, set, length-replicate}
+use lib.Seq.{sets, sets-eq}
 use borrow.Author.Tests.{eqb-true, eqb-false, eq-eqb, ne_eqb, lt-leb}
+use Rattle.std.specs.List.{list_all}
+use Rattle.lists.specs.Searches.{every}
 use Rattle.lists.proofs.Tests.{by_test}
-use Rattle.refusals.specs.Tests.{input, decide}
+use Rattle.refusals.specs.Tests.{input, decide, Verdict, pass}
 use Rattle.refusals.specs.declared.Refusal.{Refusal}
 use Rattle.refusals.specs.declared.Refusal.TheVariants.{Input}
 use Rattle.refusals.specs.declared.InputRefusal.TheVariants.{Lines, Labels, Power, Zeros}
-use Rattle.refusals.specs.declared.Verdict.{Verdict}
-use Rattle.refusals.specs.declared.Verdict.TheVariants.{Pass, No}
+use Rattle.std.specs.Prelude.{Result, Ok, Err}
 use Rattle.refusals.proofs.Tests.{refused_pass}
 use Rattle.notification.specs.Forms.{places, in_places, all_zero}
-use Rattle.notification.specs.Reading.{accepted, refused}
+use Rattle.notification.specs.Reading.{}
 use Rattle.notification.specs.declared.Key.{Key}
-use Rattle.notification.specs.declared.Reading.{Reading}
+use Rattle.notification.specs.declared.Notification.{Notification}
 use Rattle.notification.proofs.Places.{places_filled, places_every, places_zero}
 use Rattle.reader.specs.Folding.{Taken, one_more, counted, labels_fault, power_fault, faulted, judged, is_over, step_taken, take_all, no_steps}
 use Rattle.reader.specs.Folding.{fault_of, outcome_of, judgement}
 use Rattle.reader.specs.declared.tally.Tally.{Tally}
-use Rattle.reader.specs.declared.tally.LinePower.{LinePower}
-use Rattle.reader.specs.declared.tally.LinePower.TheVariants.{Gives, NoLabels, NoPower}
+use Rattle.reader.specs.declared.tally.StepFault.{StepFault}
+use Rattle.reader.specs.declared.tally.StepFault.TheVariants.{NoLabels, NoPower}
+use Rattle.std.specs.Prelude.{Result, Ok, Err}
 
 -- ---- what the steps come to
 
 module _ (steps : ℕ) (t : Tally) (ps : List ℕ) where
-  pub outcome_lines : (t.lines ≡ steps → ⊥) → No (input Lines) ≡ outcome_of steps t ps
+  pub outcome_lines : (t.lines ≡ steps → ⊥) → Err (input Lines) ≡ outcome_of steps t ps
   unfolding outcome_of
   outcome_lines h = rw (ne_eqb t.lines steps h)
 
   module _ (h : t.lines ≡ steps) where
-    pub outcome_fault : (r : Refusal) → fault_of t ≡ No r → No r ≡ outcome_of steps t ps
+    pub outcome_fault : (r : Refusal) → fault_of t ≡ Err r → Err r ≡ outcome_of steps t ps
     unfolding outcome_of
     outcome_fault r v = rw (eq-eqb t.lines steps h, v)
 
-    pub outcome_passed : fault_of t ≡ Pass → all_zero ps ≡ false → Pass ≡ outcome_of steps t ps
+    pub outcome_passed : fault_of t ≡ pass → all_zero ps ≡ false → pass ≡ outcome_of steps t ps
     unfolding outcome_of
     outcome_passed v a = rw (eq-eqb t.lines steps h, v, a)
 
-    pub outcome_zeros : fault_of t ≡ Pass → all_zero ps ≡ true → No (input Zeros) ≡ outcome_of steps t ps
+    pub outcome_zeros : fault_of t ≡ pass → all_zero ps ≡ true → Err (input Zeros) ≡ outcome_of steps t ps
     unfolding outcome_of
     outcome_zeros v a = rw (eq-eqb t.lines steps h, v, a)
 
--- ---- whether every power is 0
+-- ---- every entry passes a test, as the library says it
 
-module _ (ps : List ℕ) (i : ℕ) (e : all_zero (drop i ps) ≡ all_zero ps) where
-  next_zero : i < length ps → (eqb (get_or ps i 0) 0 && all_zero (drop (i + 1) ps)) ≡ all_zero ps
-  unfolding all_zero
-  next_zero h = sym (rw (add-one i) (ap all_zero (drop-cons ps i 0 h))) ∙ e
-
-  -- one is not 0
-  pub zero_not : i < length ps → (get_or ps i 0 ≡ 0 → ⊥) → false ≡ all_zero ps
-  zero_not h f = rw (ne_eqb (get_or ps i 0) 0 f) at (next_zero h)
-
-  -- one more is
-  pub zero_more : i < length ps → get_or ps i 0 ≡ 0 → all_zero (drop (i + 1) ps) ≡ all_zero ps
-  zero_more h f = rw (eq-eqb (get_or ps i 0) 0 f) at (next_zero h)
-
-  -- each was looked at
-  pub zero_all : length ps ≤ i → true ≡ all_zero ps
-  unfolding all_zero
-  zero_all h = rw (drop_of_length-le ps h) at e
+pub every_all : {A : Type 0} (p : A → Bool) (xs : List A) → every p xs ≡ list_all p xs
+every_all p [] = refl
+every_all p (x ∷ xs) = ap (λ (b : Bool). p x && b) (every_all p xs)
 
 -- ---- the powers in their places
 
@@ -96,7 +83,7 @@ zero_places ps h =
 
 -- ---- steps one after another
 
-module _ {A : Type 0} (say : ℕ → A → LinePower) (first steps : ℕ) where
+module _ {A : Type 0} (say : ℕ → A → Result ℕ StepFault) (first steps : ℕ) where
   abbrev take : Taken → List A → Taken
   take x xs = take_all say first steps x xs
 
@@ -105,10 +92,10 @@ module _ {A : Type 0} (say : ℕ → A → LinePower) (first steps : ℕ) where
 
   -- ---- how many steps
 
-  judged_count : (x : Taken) (l : LinePower) → (judged first x l).tally.lines ≡ one_more x.tally.lines
-  judged_count x (Gives p) = refl
-  judged_count x NoLabels = refl
-  judged_count x NoPower = refl
+  judged_count : (x : Taken) (l : Result ℕ StepFault) → (judged first x l).tally.lines ≡ one_more x.tally.lines
+  judged_count x (Ok p) = refl
+  judged_count x (Err NoLabels) = refl
+  judged_count x (Err NoPower) = refl
 
   next_count : (x : Taken) (a : A) → (next x a).tally.lines ≡ one_more x.tally.lines
   next_count x a =
@@ -126,19 +113,19 @@ module _ {A : Type 0} (say : ℕ → A → LinePower) (first steps : ℕ) where
   -- ---- the first fault
 
   -- what step k is refused by, and what its power is
-  abbrev pub refused_by : ℕ → LinePower → Verdict
-  refused_by k (Gives p) = Pass
-  refused_by k NoLabels = No (Input Labels (k + first))
-  refused_by k NoPower = No (Input Power (k + first))
+  abbrev pub refused_by : ℕ → Result ℕ StepFault → Verdict
+  refused_by k (Ok p) = pass
+  refused_by k (Err NoLabels) = Err (Input Labels (k + first))
+  refused_by k (Err NoPower) = Err (Input Power (k + first))
 
-  abbrev pub power_said : LinePower → ℕ
-  power_said (Gives p) = p
-  power_said NoLabels = 0
-  power_said NoPower = 0
+  abbrev pub power_said : Result ℕ StepFault → ℕ
+  power_said (Ok p) = p
+  power_said (Err NoLabels) = 0
+  power_said (Err NoPower) = 0
 
   unfoldable pub verdict_from : ℕ → List A → Verdict
-  verdict_from k [] = Pass
-  verdict_from k (a ∷ xs) = decide (refused_by k (say k a)) (verdict_from (suc k) xs) No
+  verdict_from k [] = pass
+  verdict_from k (a ∷ xs) = decide (refused_by k (say k a)) (verdict_from (suc k) xs) Err
 
   unfoldable pub powers_from : ℕ → List A → List ℕ
   powers_from k [] = []
@@ -160,10 +147,10 @@ module _ {A : Type 0} (say : ℕ → A → LinePower) (first steps : ℕ) where
   -- what is kept after steps that are no more than those left, after no fault
   record Kept (k : ℕ) (x : Taken) (xs : List A) : Type 0 where
     its_fault : fault_of (take x xs).tally ≡ verdict_from k xs
-    its_powers : verdict_from k xs ≡ Pass → (take x xs).powers ≡ sets x.powers k (powers_from k xs)
+    its_powers : verdict_from k xs ≡ pass → (take x xs).powers ≡ sets x.powers k (powers_from k xs)
 
   refused_kept : (k : ℕ) (x y : Taken) (r : Refusal) (a : A) (xs : List A) → next x a ≡ y
-      → eqb y.tally.fault 0 ≡ false → fault_of y.tally ≡ No r → verdict_from k (a ∷ xs) ≡ No r → Kept k x (a ∷ xs)
+      → eqb y.tally.fault 0 ≡ false → fault_of y.tally ≡ Err r → verdict_from k (a ∷ xs) ≡ Err r → Kept k x (a ∷ xs)
   refused_kept k x y r a xs e f v w =
       record {
         its_fault = ap (λ (z : Taken). fault_of z.tally) (takes_cons x y a xs e) ∙ (fault_stays y xs f ∙ (v ∙ sym w));
@@ -171,7 +158,7 @@ module _ {A : Type 0} (say : ℕ → A → LinePower) (first steps : ℕ) where
       }
 
   -- one good step, and those after it
-  kept_more : (k p : ℕ) (x y : Taken) (a : A) (xs : List A) → next x a ≡ y → say k a ≡ Gives p
+  kept_more : (k p : ℕ) (x y : Taken) (a : A) (xs : List A) → next x a ≡ y → say k a ≡ Ok p
       → y.powers ≡ set x.powers k p → Kept (suc k) y xs → Kept k x (a ∷ xs)
   unfolding verdict_from powers_from
   kept_more k p x y a xs e g w r =
@@ -199,28 +186,28 @@ module _ {A : Type 0} (say : ℕ → A → LinePower) (first steps : ℕ) where
       with_fault : ℕ → Taken
       with_fault n = record { tally = faulted x.tally n (x.tally.lines + first); powers = x.powers }
 
-      by_said : (l : LinePower) → say x.tally.lines a ≡ l → ((p : ℕ) → Kept (with_power x p).tally.lines (with_power x p) xs)
+      by_said : (l : Result ℕ StepFault) → say x.tally.lines a ≡ l → ((p : ℕ) → Kept (with_power x p).tally.lines (with_power x p) xs)
           → Kept x.tally.lines x (a ∷ xs)
-      by_said (Gives p) e more =
+      by_said (Ok p) e more =
           let n : (with_power x p).tally.lines ≡ suc x.tally.lines = omega arith in
           kept_more x.tally.lines p x (with_power x p) a xs (judged_next ∙ rw e) e refl
           (subst (λ (m : ℕ). Kept m (with_power x p) xs) n (more p))
-      by_said NoLabels e more =
+      by_said (Err NoLabels) e more =
           refused_kept x.tally.lines x (with_fault labels_fault) (Input Labels (x.tally.lines + first)) a xs
           (judged_next ∙ rw e) refl refl (rw e)
-      by_said NoPower e more =
+      by_said (Err NoPower) e more =
           refused_kept x.tally.lines x (with_fault power_fault) (Input Power (x.tally.lines + first)) a xs
           (judged_next ∙ rw e) refl refl (rw e)
 
   -- ---- ALL STEPS
 
   -- 5 to 8 of steps: their number, the first fault, every power 0
-  abbrev pub told : Key → List A → Reading
+  abbrev pub told : Key → List A → Result Notification Refusal
   told key xs =
-      cond (not (eqb (length xs) steps)) (refused (input Lines))
+      cond (not (eqb (length xs) steps)) (Err (input Lines))
       (decide (verdict_from 0 xs)
-      (cond (all_zero (powers_from 0 xs)) (refused (input Zeros)) (accepted (record { key = key; steps = steps; powers = in_places (powers_from 0 xs) })))
-      refused)
+      (cond (all_zero (powers_from 0 xs)) (Err (input Zeros)) (Ok (record { key = key; steps = steps; powers = in_places (powers_from 0 xs) })))
+      Err)
 
   module _ (key : Key) (few : steps ≤ places) (xs : List A) where
     abbrev start : Taken
@@ -246,9 +233,9 @@ module _ {A : Type 0} (say : ℕ → A → LinePower) (first steps : ℕ) where
 
       by_verdict : (v : Verdict) → verdict_from 0 xs ≡ v → judgement key steps end.tally end.powers ≡ told key xs
       unfolding judgement
-      by_verdict (No r) e =
+      by_verdict (Err r) e =
           rw (← outcome_fault steps end.tally end.powers count_same r (all_kept.its_fault ∙ e), eq-eqb (length xs) steps n, e)
-      by_verdict Pass e =
+      by_verdict (Ok u) e =
           let v = all_kept.its_fault ∙ e in
           let few-powers : length (powers_from 0 xs) ≤ places = omega (arith, powers_length 0 xs) in
           let p : end.powers ≡ in_places (powers_from 0 xs) = all_kept.its_powers e ∙ sets_places (powers_from 0 xs) few-powers in

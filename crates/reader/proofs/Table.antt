@@ -12,6 +12,7 @@ use Rattle.lists.proofs.Tests.{by_test, and_left, and_right}
 use Rattle.lists.proofs.Searches.{same_true}
 use Rattle.calendar.specs.Steps.{steps_of}
 use Rattle.calendar.proofs.StepCounts.{steps_small}
+use Rattle.std.specs.Prelude.{Err}
 use Rattle.refusals.specs.Tests.{input}
 use Rattle.refusals.specs.declared.Refusal.TheVariants.{Input}
 use Rattle.refusals.specs.declared.InputRefusal.TheVariants.{Name, Body, Header, Differs}
@@ -27,7 +28,6 @@ use Rattle.notification.specs.Reading.{
   step_lines,
   file_tests,
   note_in,
-  refused,
   read_file,
 }
 use Rattle.notification.specs.declared.Key.{Key}
@@ -56,11 +56,11 @@ body_lines body b =
 -- ---- the rows of the table
 
 module _ (name body : List ℕ) where
-  pub row_name : is_name name ≡ false → refused (input Name) ≡ read_file name body
+  pub row_name : is_name name ≡ false → Err (input Name) ≡ read_file name body
   unfolding read_file file_tests
   row_name a = rw a
 
-  pub row_body : is_name name ≡ true → is_body body ≡ false → refused (input Body) ≡ read_file name body
+  pub row_body : is_name name ≡ true → is_body body ≡ false → Err (input Body) ≡ read_file name body
   unfolding read_file file_tests
   row_body a b = rw (a, b)
 
@@ -82,11 +82,11 @@ module _ (name body : List ℕ) where
         ap is_header (same_true first (header_of k) t) ∙ header_made k n.its_form n.its_day n.its_six
 
     -- the rest of the table, after each of the three line 1 that there are
-    row_other : is_header first ≡ false → refused (Input Header 1) ≡ read_file name body
+    row_other : is_header first ≡ false → Err (Input Header 1) ≡ read_file name body
     unfolding read_file file_tests
     row_other t = rw (a, b, t)
 
-    row_differs : is_header first ≡ true → same first (header_of k) ≡ false → refused (Input Differs 1) ≡ read_file name body
+    row_differs : is_header first ≡ true → same first (header_of k) ≡ false → Err (Input Differs 1) ≡ read_file name body
     unfolding read_file file_tests
     row_differs t u = rw (a, b, t, u)
 

@@ -9,23 +9,24 @@ use borrow.Author.Tests.{eqb-true, leb-false, not-false}
 use Rattle.lists.proofs.Tests.{or_left, or_right}
 use Rattle.reader.specs.Walking.{line_power}
 use Rattle.reader.specs.Folding.{Taken, counted, labels_fault, power_fault, faulted, judged, is_over, first_line, take_step}
-use Rattle.reader.specs.declared.tally.LinePower.{LinePower}
-use Rattle.reader.specs.declared.tally.LinePower.TheVariants.{Gives, NoLabels, NoPower}
+use Rattle.reader.specs.declared.tally.StepFault.{StepFault}
+use Rattle.reader.specs.declared.tally.StepFault.TheVariants.{NoLabels, NoPower}
+use Rattle.std.specs.Prelude.{Result, Ok, Err}
 use Rattle.reader.specs.declared.tally.Tally.{Tally}
 
 -- ---- a step of the day
 
-module _ (first : ℕ) (t r : Tally) (ps : List ℕ) (said : LinePower) where
+module _ (first : ℕ) (t r : Tally) (ps : List ℕ) (said : Result ℕ StepFault) where
   abbrev x : Taken
   x = record { tally = t; powers = ps }
 
-  pub noted_power : (v : ℕ) → said ≡ Gives v → r ≡ counted t → record { tally = r; powers = set ps t.lines v } ≡ judged first x said
+  pub noted_power : (v : ℕ) → said ≡ Ok v → r ≡ counted t → record { tally = r; powers = set ps t.lines v } ≡ judged first x said
   noted_power v g q = rw q (sym (ap (judged first x) g))
 
-  pub noted_no_labels : said ≡ NoLabels → r ≡ faulted t labels_fault (t.lines + first) → record { tally = r; powers = ps } ≡ judged first x said
+  pub noted_no_labels : said ≡ Err NoLabels → r ≡ faulted t labels_fault (t.lines + first) → record { tally = r; powers = ps } ≡ judged first x said
   noted_no_labels g q = rw q (sym (ap (judged first x) g))
 
-  pub noted_no_power : said ≡ NoPower → r ≡ faulted t power_fault (t.lines + first) → record { tally = r; powers = ps } ≡ judged first x said
+  pub noted_no_power : said ≡ Err NoPower → r ≡ faulted t power_fault (t.lines + first) → record { tally = r; powers = ps } ≡ judged first x said
   noted_no_power g q = rw q (sym (ap (judged first x) g))
 
 -- ---- whether the tests of the steps are over
@@ -44,7 +45,7 @@ module _ (steps : ℕ) (t : Tally) (o : Bool) (e : o ≡ is_over steps t) where
     unfolding take_step
     take_over r h q = rw (← e, h, q)
 
-    pub take_on : (said : LinePower) (z : Taken) → o ≡ false → said ≡ line_power steps t.lines line
+    pub take_on : (said : Result ℕ StepFault) (z : Taken) → o ≡ false → said ≡ line_power steps t.lines line
         → z ≡ judged first_line (record { tally = t; powers = ps }) said → z ≡ take_step steps (record { tally = t; powers = ps }) line
     unfolding take_step
     take_on said z h m q = q ∙ rw (← e, h, m)

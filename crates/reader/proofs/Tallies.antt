@@ -11,16 +11,16 @@ use lib.Seq.{drop-cons}
 use borrow.Author.Tests.{lt-ltb, le-ltb, lt-leb}
 use Rattle.lists.specs.Searches.{first_from}
 use Rattle.lists.proofs.Tests.{by_test}
-use Rattle.refusals.specs.Tests.{Test, input, first_met, decide}
+use Rattle.refusals.specs.Tests.{Test, input, first_met, decide, Verdict, pass}
 use Rattle.refusals.specs.declared.Refusal.TheVariants.{Input}
 use Rattle.refusals.specs.declared.InputRefusal.TheVariants.{Lines, Labels, Power, Zeros}
-use Rattle.refusals.specs.declared.Verdict.{Verdict}
-use Rattle.refusals.specs.declared.Verdict.TheVariants.{Pass, No}
+use Rattle.std.specs.Prelude.{Result, Ok, Err}
 use Rattle.refusals.proofs.Tests.{refused_pass}
+use Rattle.refusals.specs.declared.Refusal.{Refusal}
 use Rattle.notification.specs.Forms.{places, in_places, all_zero}
-use Rattle.notification.specs.Reading.{has_labels, rest_of, power_value, is_power, bad_line, first_bad, line_refusal, powers_in, accepted, refused}
+use Rattle.notification.specs.Reading.{has_labels, rest_of, power_value, is_power, bad_line, first_bad, line_refusal, powers_in}
 use Rattle.notification.specs.declared.Key.{Key}
-use Rattle.notification.specs.declared.Reading.{Reading}
+use Rattle.notification.specs.declared.Notification.{Notification}
 use Rattle.reader.specs.Walking.{line_power}
 use Rattle.reader.specs.Folding.{Taken, counted, first_line, take_step, take_steps, take_all, no_steps, judgement}
 use Rattle.reader.proofs.Series.{verdict_from, powers_from, told, judged_told}
@@ -77,7 +77,7 @@ module _ (steps : ℕ) where
   verdict_table ls = verdict_first ls 0 (length ls) (zero-add (length ls))
 
   -- where none is bad, the powers are those of the lines
-  powers_said : (k : ℕ) (ls : List (List ℕ)) → fault k ls ≡ Pass → powers_from (line_power steps) first_line steps k ls ≡ powers_in steps k ls
+  powers_said : (k : ℕ) (ls : List (List ℕ)) → fault k ls ≡ pass → powers_from (line_power steps) first_line steps k ls ≡ powers_in steps k ls
   unfolding verdict_from powers_from powers_in line_power
   powers_said k [] e = refl
   powers_said k (l ∷ ls) e =
@@ -96,25 +96,25 @@ line_tests steps ls =
     ∷ (all_zero (powers_in steps 0 ls), input Zeros)
     ∷ []
 
-abbrev pub line_result : Key → ℕ → List (List ℕ) → Reading
+abbrev pub line_result : Key → ℕ → List (List ℕ) → Result Notification Refusal
 line_result key steps ls =
-    decide (first_met (line_tests steps ls)) (accepted (record { key = key; steps = steps; powers = in_places (powers_in steps 0 ls) })) refused
+    decide (first_met (line_tests steps ls)) (Ok (record { key = key; steps = steps; powers = in_places (powers_in steps 0 ls) })) Err
 
 module _ (key : Key) (steps : ℕ) (few : steps ≤ places) (ls : List (List ℕ)) where
   by_verdict : (v : Verdict) → fault steps 0 ls ≡ v → eqb (length ls) steps ≡ true
       → told (line_power steps) first_line steps key ls ≡ line_result key steps ls
-  by_verdict (No r) e n =
+  by_verdict (Err r) e n =
       let t = sym (verdict_table steps ls) ∙ e in
       by_test (ltb (first_bad steps ls) (length ls))
-      (λ q. let z : No (line_refusal steps ls (first_bad steps ls)) ≡ No r = rw q at t in
+      (λ q. let z : Err (line_refusal steps ls (first_bad steps ls)) ≡ Err r = rw q at t in
       rw (n, e, q)
-      (sym (ap (λ (v : Verdict). decide v (accepted (record { key = key; steps = steps; powers = in_places (powers_in steps 0 ls) })) refused) z)))
-      (λ q. let z : Pass ≡ No r = rw q at t in refused_pass r (sym z))
-  by_verdict Pass e n =
+      (sym (ap (λ (v : Verdict). decide v (Ok (record { key = key; steps = steps; powers = in_places (powers_in steps 0 ls) })) Err) z)))
+      (λ q. let z : pass ≡ Err r = rw q at t in refused_pass r (sym z))
+  by_verdict (Ok u) e n =
       let t = sym (verdict_table steps ls) ∙ e in
       let w = powers_said steps 0 ls e in
       by_test (ltb (first_bad steps ls) (length ls))
-      (λ q. let z : No (line_refusal steps ls (first_bad steps ls)) ≡ Pass = rw q at t in refused_pass (line_refusal steps ls (first_bad steps ls)) z)
+      (λ q. let z : Err (line_refusal steps ls (first_bad steps ls)) ≡ pass = rw q at t in refused_pass (line_refusal steps ls (first_bad steps ls)) z)
       (λ q. by_test (all_zero (powers_in steps 0 ls))
       (λ z. rw (n, e, w, z, q))
       (λ z. rw (n, e, w, z, q)))

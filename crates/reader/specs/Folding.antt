@@ -1,17 +1,17 @@
 -- What is kept from step to step, however the steps are told, and from line to line of a file.
-use Rattle.std.specs.Prelude.{◌≡◌, Bool, cond, not, ◌&&◌, ◌||◌, List, [], ◌∷◌, ℕ, ◌+◌, ◌≤◌, min, leb, eqb, length, drop, set, replicate}
-use Rattle.refusals.specs.Tests.{input, decide}
+use Rattle.std.specs.Prelude.{◌≡◌, Bool, cond, not, ◌&&◌, ◌||◌, List, [], ◌∷◌, ℕ, ◌+◌, ◌≤◌, min, leb, eqb, length, drop, set, replicate, Result, Ok, Err}
+use Rattle.refusals.specs.Tests.{Verdict, pass, input, decide}
+use Rattle.refusals.specs.declared.Refusal.{Refusal}
 use Rattle.refusals.specs.declared.Refusal.TheVariants.{Input}
 use Rattle.refusals.specs.declared.InputRefusal.TheVariants.{Header, Differs, Lines, Labels, Power, Zeros}
-use Rattle.refusals.specs.declared.Verdict.{Verdict}
-use Rattle.refusals.specs.declared.Verdict.TheVariants.{Pass, No}
 use Rattle.notification.specs.Forms.{places, all_zero}
-use Rattle.notification.specs.Reading.{is_header, lines_in, accepted, refused}
+use Rattle.notification.specs.Reading.{is_header, lines_in}
 use Rattle.notification.specs.declared.Key.{Key}
-use Rattle.notification.specs.declared.Reading.{Reading}
+use Rattle.notification.specs.declared.Notification.{Notification}
 use Rattle.reader.specs.declared.lines.FileTally.{FileTally}
-use Rattle.reader.specs.declared.tally.LinePower.{LinePower}
-use Rattle.reader.specs.declared.tally.LinePower.TheVariants.{Gives, NoLabels, NoPower}
+use Rattle.reader.specs.declared.tally.StepFault.{StepFault}
+use Rattle.reader.specs.declared.tally.StepFault.TheVariants.{NoLabels, NoPower}
+use Rattle.std.specs.Prelude.{Result, Ok, Err}
 use Rattle.reader.specs.declared.tally.Tally.{Tally}
 use Rattle.reader.specs.Walking.{starts_with, line_power, whole_to, rest_in}
 
@@ -40,22 +40,22 @@ abbrev pub faulted : Tally → ℕ → ℕ → Tally
 faulted t number place = record { lines = one_more t.lines; fault = number; place = place }
 
 -- a step of the day, after no fault: its power, or the first fault, where the place of the first step is given
-abbrev pub judged : ℕ → Taken → LinePower → Taken
-judged first x (Gives p) = record { tally = counted x.tally; powers = set x.powers x.tally.lines p }
-judged first x NoLabels = record { tally = faulted x.tally labels_fault (x.tally.lines + first); powers = x.powers }
-judged first x NoPower = record { tally = faulted x.tally power_fault (x.tally.lines + first); powers = x.powers }
+abbrev pub judged : ℕ → Taken → Result ℕ StepFault → Taken
+judged first x (Ok p) = record { tally = counted x.tally; powers = set x.powers x.tally.lines p }
+judged first x (Err NoLabels) = record { tally = faulted x.tally labels_fault (x.tally.lines + first); powers = x.powers }
+judged first x (Err NoPower) = record { tally = faulted x.tally power_fault (x.tally.lines + first); powers = x.powers }
 
 -- after a fault, and past the day's steps, a step is only counted
 abbrev pub is_over : ℕ → Tally → Bool
 is_over steps t = not (eqb t.fault 0) || leb steps t.lines
 
 -- the next step, by what is said of it
-abbrev pub step_taken : ℕ → ℕ → Taken → LinePower → Taken
+abbrev pub step_taken : ℕ → ℕ → Taken → Result ℕ StepFault → Taken
 step_taken first steps x said =
     cond (is_over steps x.tally) (record { tally = counted x.tally; powers = x.powers }) (judged first x said)
 
 -- steps one after another, by what is said of each as step k
-unfoldable pub take_all : {A : Type 0} → (ℕ → A → LinePower) → ℕ → ℕ → Taken → List A → Taken
+unfoldable pub take_all : {A : Type 0} → (ℕ → A → Result ℕ StepFault) → ℕ → ℕ → Taken → List A → Taken
 take_all say first steps x [] = x
 take_all say first steps x (a ∷ xs) = take_all say first steps (step_taken first steps x (say x.tally.lines a)) xs
 
@@ -77,17 +77,17 @@ no_steps = record { lines = 0; fault = 0; place = 0 }
 
 -- what the first fault is refused by
 unfoldable pub fault_of : Tally → Verdict
-fault_of t = cond (eqb t.fault 0) Pass (cond (eqb t.fault labels_fault) (No (Input Labels t.place)) (No (Input Power t.place)))
+fault_of t = cond (eqb t.fault 0) pass (cond (eqb t.fault labels_fault) (Err (Input Labels t.place)) (Err (Input Power t.place)))
 
 -- what the steps come to: their number, the first fault, whether a power is not 0
 unfoldable pub outcome_of : ℕ → Tally → List ℕ → Verdict
 outcome_of steps t powers =
-    cond (not (eqb t.lines steps)) (No (input Lines))
-    (decide (fault_of t) (cond (all_zero powers) (No (input Zeros)) Pass) No)
+    cond (not (eqb t.lines steps)) (Err (input Lines))
+    (decide (fault_of t) (cond (all_zero powers) (Err (input Zeros)) pass) Err)
 
 -- the notification that the steps come to, or their refusal
-unfoldable pub judgement : Key → ℕ → Tally → List ℕ → Reading
-judgement key steps t powers = decide (outcome_of steps t powers) (accepted (record { key = key; steps = steps; powers = powers })) refused
+unfoldable pub judgement : Key → ℕ → Tally → List ℕ → Result Notification Refusal
+judgement key steps t powers = decide (outcome_of steps t powers) (Ok (record { key = key; steps = steps; powers = powers })) Err
 
 -- WHAT IS KEPT FROM LINE TO LINE OF A FILE
 
@@ -138,11 +138,11 @@ no_lines = record { header = 0; steps = record { tally = no_steps; powers = repl
 
 -- what the header is refused by
 unfoldable pub header_said : ℕ → Verdict
-header_said found = cond (eqb found 3) (No (Input Header 1)) (cond (eqb found 4) (No (Input Differs 1)) Pass)
+header_said found = cond (eqb found 3) (Err (Input Header 1)) (cond (eqb found 4) (Err (Input Differs 1)) pass)
 
 -- what a file's lines come to: the header's refusal, else what the steps come to
-unfoldable pub concluded : Key → ℕ → FileTaken → Reading
-concluded key steps x = decide (header_said x.header) (judgement key steps x.steps.tally x.steps.powers) refused
+unfoldable pub concluded : Key → ℕ → FileTaken → Result Notification Refusal
+concluded key steps x = decide (header_said x.header) (judgement key steps x.steps.tally x.steps.powers) Err
 
 -- LINES TAKEN FROM A PLACE ON
 

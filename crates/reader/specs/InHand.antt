@@ -1,14 +1,15 @@
 -- A FILE WHOSE BODY COMES IN PIECES (document 02, K4): what is kept between two pieces, and what the end gives.
-use Rattle.std.specs.Prelude.{Bool, cond, ◌&&◌, List, [], ◌∷◌, ◌++◌, ℕ, ◌+◌, ◌-◌, min, leb, ltb, eqb, length, take, drop}
+use Rattle.std.specs.Prelude.{Bool, cond, ◌&&◌, List, [], ◌∷◌, ◌++◌, ℕ, ◌+◌, ◌-◌, min, leb, ltb, eqb, length, take, drop, Result, Err}
 use Rattle.lists.specs.Searches.{byte_from}
 use Rattle.calendar.specs.Steps.{steps_of}
 use Rattle.refusals.specs.Tests.{input}
 use Rattle.refusals.specs.declared.InputRefusal.TheVariants.{Name, Body}
 use Rattle.notification.specs.Forms.{places, six_bytes}
 use Rattle.notification.specs.Writing.{header_of}
-use Rattle.notification.specs.Reading.{name_key, is_name, body_most, refused}
+use Rattle.notification.specs.Reading.{name_key, is_name, body_most}
 use Rattle.notification.specs.declared.Key.{Key}
-use Rattle.notification.specs.declared.Reading.{Reading}
+use Rattle.notification.specs.declared.Notification.{Notification}
+use Rattle.refusals.specs.declared.Refusal.{Refusal}
 use Rattle.reader.specs.declared.pieces.FileReader.{FileReader}
 use Rattle.reader.specs.Folding.{FileTaken, with_powers, no_lines, take_text, rest_of_text, concluded}
 
@@ -102,13 +103,13 @@ key_of header day =
     }
 
 -- THE END: 1, then 2, then what the lines come to
-unfoldable pub ended : InHand → Reading
+unfoldable pub ended : InHand → Result Notification Refusal
 ended x =
     cond (has_name x.header)
     (cond (ltb 0 x.length && leb x.length body_most && eqb (length x.line) 0)
     (concluded (key_of x.header x.day) x.steps x.taken)
-    (refused (input Body)))
-    (refused (input Name))
+    (Err (input Body)))
+    (Err (input Name))
 
 -- PIECES ONE AFTER ANOTHER
 unfoldable pub fed_all : InHand → List (List ℕ) → InHand

@@ -5,35 +5,34 @@ use Rattle.lists.specs.Digits.{digit_value}
 use Rattle.calendar.specs.Steps.{plain_steps}
 use Rattle.calendar.specs.Labels.{turn_of}
 use Rattle.notification.specs.Reading.{has_labels, rest_of, power_value, is_power}
-use Rattle.reader.specs.declared.power.Power.{Power as PowerRead}
-use Rattle.reader.specs.declared.power.Power.TheVariants.{Is, Not}
-use Rattle.reader.specs.declared.tally.LinePower.{LinePower}
-use Rattle.reader.specs.declared.tally.LinePower.TheVariants.{Gives, NoLabels, NoPower}
+use Rattle.std.specs.Prelude.{Option, Some, None, Result, Ok, Err}
+use Rattle.reader.specs.declared.tally.StepFault.{StepFault}
+use Rattle.reader.specs.declared.tally.StepFault.TheVariants.{NoLabels, NoPower}
 
 -- a text begins with another
 unfoldable pub starts_with : List ℕ → List ℕ → Bool
 starts_with t s = same (take (length t) s) t
 
 -- the power and `;` that five bytes begin with: one digit, or up to four that begin with no 0
-unfoldable pub leading_power : ℕ → ℕ → ℕ → ℕ → ℕ → PowerRead
+unfoldable pub leading_power : ℕ → ℕ → ℕ → ℕ → ℕ → Option (ℕ × ℕ)
 leading_power a b c d e =
     let two = digit_value a * 10 + digit_value b in
     let three = two * 10 + digit_value c in
-    cond (ltb 9 (digit_value a)) Not
-    (cond (eqb b 59) (Is (digit_value a) 2)
-    (cond (ltb 9 (digit_value b)) Not
-    (cond (eqb (digit_value a) 0) Not
-    (cond (eqb c 59) (Is two 3)
-    (cond (ltb 9 (digit_value c)) Not
-    (cond (eqb d 59) (Is three 4)
-    (cond (ltb 9 (digit_value d)) Not
-    (cond (eqb e 59) (Is (three * 10 + digit_value d) 5) Not))))))))
+    cond (ltb 9 (digit_value a)) None
+    (cond (eqb b 59) (Some (digit_value a, 2))
+    (cond (ltb 9 (digit_value b)) None
+    (cond (eqb (digit_value a) 0) None
+    (cond (eqb c 59) (Some (two, 3))
+    (cond (ltb 9 (digit_value c)) None
+    (cond (eqb d 59) (Some (three, 4))
+    (cond (ltb 9 (digit_value d)) None
+    (cond (eqb e 59) (Some (three * 10 + digit_value d, 5)) None))))))))
 
 -- what a line says of step k
-unfoldable pub line_power : ℕ → ℕ → List ℕ → LinePower
+unfoldable pub line_power : ℕ → ℕ → List ℕ → Result ℕ StepFault
 line_power steps k line =
-    cond (not (has_labels steps k line)) NoLabels
-    (cond (not (is_power (rest_of steps k line))) NoPower (Gives (power_value (rest_of steps k line))))
+    cond (not (has_labels steps k line)) (Err NoLabels)
+    (cond (not (is_power (rest_of steps k line))) (Err NoPower) (Ok (power_value (rest_of steps k line))))
 
 -- A GOOD LINE AT ONCE
 
@@ -74,12 +73,9 @@ times_text =
 abbrev pub six_at : List ℕ → ℕ → ℕ
 six_at s i = six (get_or s i 0) (get_or s (i + 1) 0) (get_or s (i + 2) 0) (get_or s (i + 3) 0) (get_or s (i + 4) 0) (get_or s (i + 5) 0)
 
--- four and eight bytes at a place as one number
+-- four bytes at a place as one number
 abbrev pub four_at : List ℕ → ℕ → ℕ
 four_at s i = get_or s i 0 + 256 * (get_or s (i + 1) 0 + 256 * (get_or s (i + 2) 0 + 256 * get_or s (i + 3) 0))
-
-abbrev pub eight_at : List ℕ → ℕ → ℕ
-eight_at s i = four_at s i + four_at s (i + 4) * 4294967296
 
 -- the half hours since midnight that a boundary between steps is labelled with
 unfoldable pub half_hours : ℕ → ℕ → ℕ
@@ -97,30 +93,30 @@ pub record Plain (steps k r : ℕ) : Type 0 where
 
 -- six bytes begin with a power, `;` and LF, which end a line of n bytes
 pub record TailAt (a b c d e f v n : ℕ) : Type 0 where
-  pub power : Is v (n - 13) ≡ leading_power a b c d e
+  pub power : Some (v, n - 13) ≡ leading_power a b c d e
   pub break : get_or (a ∷ b ∷ c ∷ d ∷ e ∷ f ∷ []) (n - 13) 0 ≡ 10
   pub more : 15 ≤ n
   pub few : n ≤ 18
 
 -- what is said of six bytes
-abbrev pub TailSays : ℕ → ℕ → ℕ → ℕ → ℕ → ℕ → PowerRead → Type 0
-TailSays a b c d e f (Is v n) = TailAt a b c d e f v n
-TailSays a b c d e f Not = Unit {0}
+abbrev pub TailSays : ℕ → ℕ → ℕ → ℕ → ℕ → ℕ → Option (ℕ × ℕ) → Type 0
+TailSays a b c d e f (Some (v, n)) = TailAt a b c d e f v n
+TailSays a b c d e f None = Unit {0}
 
 -- at a place stand two marks, a power and `;`, and LF: n bytes
 pub record LineAt (s : List ℕ) (at from until v n : ℕ) : Type 0 where
   pub bytes : (i : ℕ) → get_or s i 0 < 256
   pub first : six_at s at ≡ from
   pub second : six_at s (at + 6) ≡ until
-  pub power : Is v (n - 13) ≡ leading_power (get_or s (at + 12) 0) (get_or s (at + 12 + 1) 0) (get_or s (at + 12 + 2) 0) (get_or s (at + 12 + 3) 0) (get_or s (at + 12 + 4) 0)
+  pub power : Some (v, n - 13) ≡ leading_power (get_or s (at + 12) 0) (get_or s (at + 12 + 1) 0) (get_or s (at + 12 + 2) 0) (get_or s (at + 12 + 3) 0) (get_or s (at + 12 + 4) 0)
   pub break : get_or s (at + n - 1) 0 ≡ 10
   pub more : 13 ≤ n
   pub within : at + n ≤ length s
 
 -- what is said of a place
-abbrev pub LineSays : List ℕ → ℕ → ℕ → ℕ → PowerRead → Type 0
-LineSays s at from until (Is v n) = LineAt s at from until v n
-LineSays s at from until Not = Unit {0}
+abbrev pub LineSays : List ℕ → ℕ → ℕ → ℕ → Option (ℕ × ℕ) → Type 0
+LineSays s at from until (Some (v, n)) = LineAt s at from until v n
+LineSays s at from until None = Unit {0}
 
 -- WHERE LINES END
 

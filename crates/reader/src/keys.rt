@@ -1,64 +1,37 @@
 // The key in a name and in a header: ceder, acquirer, date and category, parted by a byte.
 ghost use Rattle.std.specs.Prelude.{◌≡◌, ◌+◌, ◌≤◌, length};
 ghost use Rattle.notification.specs.Reading.{is_header};
-ghost use Rattle.reader.specs.Parts.{no_key, key_read, marked, name_read};
+ghost use Rattle.reader.specs.Parts.{key_read, marked, name_read};
 
-use calendar::{Day, day_of};
+use calendar::day_of;
 use notification::Key;
-use notification::forms::{is_category, is_code, six, sixteen};
-
-// Whether a text is a key's, and the key.
-#[derive(Clone, Copy)]
-pub struct KeyRead {
-    pub good: bool,
-    pub key: Key,
-}
-
-pub(crate) fn no_key() -> KeyRead
-    ensures { result ≡ no_key }
-{
-    KeyRead {
-        good: false,
-        key: Key {
-            ceder: [0; 16],
-            acquirer: [0; 16],
-            category: [0; 6],
-            day: 0,
-        },
-    }
-}
+use notification::forms::{in_bytes, is_category, is_code};
 
 // The key in `ceder.acquirer.date.category`, parted by a byte, where each part is valid.
-fn key_in(s: &[u8], by: u8) -> KeyRead
+fn key_in(s: &[u8], by: u8) -> Option<Key>
     ensures { result ≡ key_read by s.now }
 {
     let n = s.len();
     if n < 48 {
-        return no_key();
+        return None;
     }
     if 49 < n {
-        return no_key();
+        return None;
     }
     let ceder = &s[0..16];
     let acquirer = &s[17..33];
     let category = &s[43..];
     let parted = (s[16] == by) & (s[33] == by) & (s[42] == by);
     if !(parted & is_code(ceder) & is_code(acquirer) & is_category(category)) {
-        return no_key();
+        return None;
     }
-    let day = day_of(&s[34..42]);
-    match day {
-        Day::Number(number) => {
-            let key = Key {
-                ceder: sixteen(ceder),
-                acquirer: sixteen(acquirer),
-                category: six(category),
-                day: number,
-            };
-            KeyRead { good: true, key }
-        }
-        Day::NoDay => no_key(),
-    }
+    let day = day_of(&s[34..42])?;
+    Some(Key {
+        ceder: in_bytes(ceder),
+        acquirer: in_bytes(acquirer),
+        category: in_bytes(category),
+        day,
+    })
 }
 
 // Whether a text begins with `NER_` and ends with `.csv`.
@@ -77,16 +50,16 @@ fn is_marked(name: &[u8], end: usize) -> bool
 }
 
 // The key of a name.
-pub(crate) fn name_key(name: &[u8]) -> KeyRead
+pub(crate) fn name_key(name: &[u8]) -> Option<Key>
     ensures { result ≡ name_read name.now }
 {
     let n = name.len();
     if n < 8 {
-        return no_key();
+        return None;
     }
     let end = n - 4;
     if !is_marked(name, end) {
-        return no_key();
+        return None;
     }
     key_in(&name[4..end], b'_')
 }
@@ -103,6 +76,5 @@ pub(crate) fn is_header(line: &[u8]) -> bool
     if line[end] != b';' {
         return false;
     }
-    let read = key_in(&line[0..end], b';');
-    read.good
+    key_in(&line[0..end], b';').is_some()
 }

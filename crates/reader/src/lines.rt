@@ -7,7 +7,7 @@ ghost use Rattle.reader.specs.Folding.{with_powers, take_lines, headed_by, past_
 
 use crate::header::{is_headed, other_header};
 use crate::steps::take_steps;
-use crate::tally::Tally;
+use crate::tally::{Run, Tally};
 use lists::bytes::byte_from;
 
 // The header is the name's.
@@ -22,30 +22,19 @@ pub struct FileTally {
     pub steps: Tally,
 }
 
-// Lines that were taken, and where the next one begins.
-#[derive(Clone, Copy)]
-pub struct FileRun {
-    pub tally: FileTally,
-    pub at: usize,
-}
-
 // Where the unfinished line begins: after the last LF from a place on, or at the place.
 fn rest_start(s: &[u8], from: usize) -> usize
     requires { from ≤ length s.now }
     ensures { result ≡ from + whole_to (drop from s.now) }
 {
-    let mut i = s.len();
-    while from < i {
-        if s[i - 1] == b'\n' {
-            return i;
-        }
-        i -= 1;
+    match s[from..].iter().rev().position(|b| *b == b'\n') {
+        Some(unfinished) => s.len() - unfinished,
+        None => from,
     }
-    from
 }
 
 // The name's header, where it comes first.
-fn take_header(t: FileTally, header: &[u8], body: &[u8], from: usize) -> FileRun
+fn take_header(t: FileTally, header: &[u8], body: &[u8], from: usize) -> Run<FileTally>
     requires { (50 ≤ length header.now) × (length header.now ≤ 51) × (from ≤ length body.now) }
     ensures tally_value { result.tally
         ≡ record {
@@ -57,24 +46,23 @@ fn take_header(t: FileTally, header: &[u8], body: &[u8], from: usize) -> FileRun
     ensures at_in_bounds { result.at ≤ length body.now }
 {
     if t.header != 0 {
-        return FileRun { tally: t, at: from };
+        return Run { tally: t, at: from };
     }
     if !is_headed(header, body, from) {
-        return FileRun { tally: t, at: from };
+        return Run { tally: t, at: from };
     }
-    let steps = t.steps;
     let tally = FileTally {
         header: NAMES_HEADER,
-        steps,
+        ..t
     };
-    FileRun {
+    Run {
         tally,
         at: from + header.len(),
     }
 }
 
 // The lines after a header that isn't the name's, or before any: the first is looked at where there was none.
-fn pass_lines(t: FileTally, body: &[u8], from: usize) -> FileRun
+fn pass_lines(t: FileTally, body: &[u8], from: usize) -> Run<FileTally>
     requires { (from ≤ length body.now) × (t.header ≡ 1 → ⊥) }
     ensures by_index { (steps : ℕ) (powers : List ℕ) → with_powers result.tally powers
         ≡ take_lines steps (with_powers t powers) (lines_in (drop from body.now)) }
@@ -82,18 +70,17 @@ fn pass_lines(t: FileTally, body: &[u8], from: usize) -> FileRun
 {
     let at = rest_start(body, from);
     if t.header != 0 {
-        return FileRun { tally: t, at };
+        return Run { tally: t, at };
     }
     let end = byte_from(body, from, b'\n');
     if body.len() <= end {
-        return FileRun { tally: t, at };
+        return Run { tally: t, at };
     }
-    let steps = t.steps;
     let tally = FileTally {
         header: other_header(&body[from..end]),
-        steps,
+        ..t
     };
-    FileRun { tally, at }
+    Run { tally, at }
 }
 
 // A text's lines from a place on, each ended by LF, one after another, and where the unfinished line begins. The
@@ -105,7 +92,7 @@ pub(crate) fn take_lines(
     body: &[u8],
     from: usize,
     powers: &mut [u16; 50],
-) -> FileRun
+) -> Run<FileTally>
     requires { (50 ≤ length header.now) × (length header.now ≤ 51) × (steps ≤ places)
         × (from ≤ length body.now) }
     ensures powers_after { with_powers result.tally powers.new
@@ -127,5 +114,5 @@ pub(crate) fn take_lines(
         header: NAMES_HEADER,
         steps,
     };
-    FileRun { tally, at: run.at }
+    Run { tally, at: run.at }
 }

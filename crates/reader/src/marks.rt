@@ -1,10 +1,8 @@
 // A good line at once: its two labels as numbers, then its power, `;` and LF.
-ghost use Rattle.std.specs.Prelude.{true, cond, ◌≡◌, ℕ, ◌+◌, ◌*◌, ◌<◌, ◌≤◌, eqb, length, get_or};
+ghost use Rattle.std.specs.Prelude.{true, cond, Some, None, ◌≡◌, ℕ, ◌+◌, ◌*◌, ◌<◌, ◌≤◌, eqb, length, get_or};
 ghost use Rattle.notification.specs.Forms.{places};
 ghost use Rattle.reader.specs.Walking.{four_at, six_at, half_hours, Plain, TailSays, LineSays};
-ghost use Rattle.reader.specs.declared.power.Power.TheVariants.{Is, Not};
 
-use crate::power::Power;
 use calendar::{PLAIN_STEPS, turn_of};
 use lists::bytes::byte_at;
 use lists::numbers::{byte, digit_value};
@@ -67,34 +65,35 @@ fn twelve(s: &[u8], a: usize, t: &[u8], i: usize) -> bool
 }
 
 // The power so far and its line's bytes, where the byte after `;` is LF.
-fn ended(b: u8, v: u32, n: usize) -> Power
+fn ended(b: u8, v: u32, n: usize) -> Option<(u16, usize)>
     requires { v ≤ 9999 }
-    ensures { result ≡ cond (eqb b 10) (Is v n) Not }
+    ensures { result ≡ cond (eqb b 10) (Some (v, n)) None }
 {
     if b == b'\n' {
-        Power::Is(v as u16, n)
+        Some((v as u16, n))
     } else {
-        Power::Not
+        None
     }
 }
 
-// The power, `;` and LF that six bytes begin with, and how many bytes the line has with the twelve of its labels.
-fn tail_of(a: u8, b: u8, c: u8, d: u8, e: u8, f: u8) -> Power
+// The power, `;` and LF that six bytes begin with, and how many bytes the line has with the twelve of its labels. Not by
+// `power_of`: on each way it is known here which byte has to be LF, and none is looked up by its place.
+fn tail_of(a: u8, b: u8, c: u8, d: u8, e: u8, f: u8) -> Option<(u16, usize)>
     ensures { TailSays a b c d e f result }
 {
     let one = digit_value(a);
     if 9 < one {
-        return Power::Not;
+        return None;
     }
     if b == b';' {
         return ended(c, one, 15);
     }
     let next = digit_value(b);
     if 9 < next {
-        return Power::Not;
+        return None;
     }
     if one == 0 {
-        return Power::Not;
+        return None;
     }
     let two = one * 10 + next;
     if c == b';' {
@@ -102,7 +101,7 @@ fn tail_of(a: u8, b: u8, c: u8, d: u8, e: u8, f: u8) -> Power
     }
     let next = digit_value(c);
     if 9 < next {
-        return Power::Not;
+        return None;
     }
     let three = two * 10 + next;
     if d == b';' {
@@ -110,26 +109,26 @@ fn tail_of(a: u8, b: u8, c: u8, d: u8, e: u8, f: u8) -> Power
     }
     let next = digit_value(d);
     if 9 < next {
-        return Power::Not;
+        return None;
     }
     if e == b';' {
         ended(f, three * 10 + next, 18)
     } else {
-        Power::Not
+        None
     }
 }
 
 // The line at a place near the end: two times as in a list of them, a power and `;`, and LF, with how many bytes
 // these are.
-fn last_line(s: &[u8], a: usize, t: &[u8], i: usize) -> Power
+fn last_line(s: &[u8], a: usize, t: &[u8], i: usize) -> Option<(u16, usize)>
     requires { (a ≤ length s.now) × (i + 12 ≤ length t.now) }
     ensures { LineSays s.now a (six_at t.now i) (six_at t.now (i + 6)) result }
 {
     if s.len() - a < 15 {
-        return Power::Not;
+        return None;
     }
     if !twelve(s, a, t, i) {
-        return Power::Not;
+        return None;
     }
     let p = a + 12;
     tail_of(
@@ -153,7 +152,7 @@ pub(crate) fn room_in(s: &[u8]) -> usize
 }
 
 // The line at a place, where the longest there is has room before a place that is given.
-pub(crate) fn good_line(s: &[u8], a: usize, room: usize, t: &[u8], i: usize) -> Power
+pub(crate) fn good_line(s: &[u8], a: usize, room: usize, t: &[u8], i: usize) -> Option<(u16, usize)>
     requires { (a ≤ length s.now) × (i + 12 ≤ length t.now) × (a < room → a + 18 ≤ length s.now) }
     ensures { LineSays s.now a (six_at t.now i) (six_at t.now (i + 6)) result }
 {
@@ -161,7 +160,7 @@ pub(crate) fn good_line(s: &[u8], a: usize, room: usize, t: &[u8], i: usize) -> 
         return last_line(s, a, t, i);
     }
     if !twelve(s, a, t, i) {
-        return Power::Not;
+        return None;
     }
     let p = a + 12;
     tail_of(s[p], s[p + 1], s[p + 2], s[p + 3], s[p + 4], s[p + 5])

@@ -19,13 +19,14 @@ ghost use Rattle.reader.specs.InHand.{
 
 use crate::keys::name_key;
 use crate::lines::{FileTally, take_lines};
-use crate::reading::{conclude, refuse};
+use crate::reading::conclude;
 use crate::tally::Tally;
 use calendar::steps_of;
 use lists::bytes::byte_from;
 use lists::numbers::{least, least_length};
-use notification::forms::{six, sixteen};
-use notification::{Key, Reading};
+use notification::forms::in_bytes;
+use notification::{Key, Notification};
+use refusals::trying::refuse_if;
 use refusals::{InputRefusal, Refusal};
 
 // The most bytes that a body has.
@@ -73,14 +74,8 @@ struct WholeLine {
 fn length_with(before: u32, piece: &[u8]) -> u32
     ensures { result ≡ length_with before piece.now }
 {
-    if MOST_BYTES < before {
-        return TOO_MANY;
-    }
-    let room = (MOST_BYTES - before) as usize;
-    if room < piece.len() {
-        return TOO_MANY;
-    }
-    before + piece.len() as u32
+    let total = (before as usize).saturating_add(piece.len());
+    total.min(TOO_MANY as usize) as u32
 }
 
 // The header's line that a name asks for, with its LF.
@@ -88,12 +83,9 @@ fn header_of(name: &[u8]) -> [u8; 51]
     requires { is_name name.now ≡ true }
     ensures { take (length name.now - 6) result ≡ header_of (name_key name.now) ++ 10 ∷ [] }
 {
+    let parts = &name[4..52];
     let mut header = [0u8; 51];
-    let mut i: usize = 0;
-    while i < 48 {
-        header[i] = name[i + 4];
-        i += 1;
-    }
+    header[..48].copy_from_slice(parts);
     header[16] = b';';
     header[33] = b';';
     header[42] = b';';
@@ -135,19 +127,10 @@ fn first_bytes(s: &[u8], from: usize) -> [u8; 64]
     requires { from ≤ length s.now }
     ensures { take (length s.now - from) result ≡ take 64 (drop from s.now) }
 {
+    let n = least_length(s.len() - from, HELD as usize);
+    let first = &s[from..from + n];
     let mut line = [0u8; 64];
-    let n = s.len() - from;
-    if n == 0 {
-        return line;
-    }
-    let mut i: usize = 0;
-    while i < n {
-        if HELD as usize <= i {
-            break;
-        }
-        line[i] = s[from + i];
-        i += 1;
-    }
+    line[..n].copy_from_slice(first);
     line
 }
 
@@ -157,39 +140,17 @@ fn whole_line(line: [u8; 64], held: u32, piece: &[u8], end: usize) -> WholeLine
     ensures text_value { take (result.length + 1) result.text ≡ gone_on (take held line) piece.now end ++ 10 ∷ [] }
     ensures length_value { (result.length ≡ length (gone_on (take held line) piece.now end)) × (result.length ≤ 64) }
 {
-    let n = least(held, HELD);
+    let n = least(held, HELD) as usize;
+    let more = least_length(end, HELD as usize - n);
+    let before = &line[..n];
+    let after = &piece[..more];
     let mut text = [b'\n'; 65];
-    let mut k: usize = 0;
-    while k < n as usize {
-        text[k] = line[k];
-        k += 1;
-    }
-    let mut i: usize = 0;
-    while i < end {
-        if HELD as usize <= k {
-            break;
-        }
-        text[k] = piece[i];
-        k += 1;
-        i += 1;
-    }
+    text[..n].copy_from_slice(before);
+    text[n..n + more].copy_from_slice(after);
     WholeLine {
         text,
-        length: k as u32,
+        length: (n + more) as u32,
     }
-}
-
-// The first 64 of 65 bytes.
-fn without_last(text: [u8; 65]) -> [u8; 64]
-    ensures { result ≡ take 64 text }
-{
-    let mut line = [0u8; 64];
-    let mut i: usize = 0;
-    while i < 64 {
-        line[i] = text[i];
-        i += 1;
-    }
-    line
 }
 
 // The key that a header's line and a day give.
@@ -199,9 +160,9 @@ fn key_of(header: &[u8], day: u32) -> Key
 {
     let n = header.len();
     Key {
-        ceder: sixteen(&header[0..16]),
-        acquirer: sixteen(&header[17..33]),
-        category: six(&header[43..n - 2]),
+        ceder: in_bytes(&header[0..16]),
+        acquirer: in_bytes(&header[17..33]),
+        category: in_bytes(&header[43..n - 2]),
         day,
     }
 }
@@ -211,12 +172,10 @@ impl FileReader {
     pub fn begin(name: &[u8]) -> FileReader
         ensures { in_hand result ≡ begun name.now }
     {
-        let read = name_key(name);
-        if !read.good {
-            return fresh([0; 51], 0, 0);
+        match name_key(name) {
+            Some(key) => fresh(header_of(name), name.len() as u32 - 6, key.day),
+            None => fresh([0; 51], 0, 0),
         }
-        let key = read.key;
-        fresh(header_of(name), name.len() as u32 - 6, key.day)
     }
 
     // The lines of a piece from a place on, where a line begins, after what the lines before it have shown.
@@ -241,7 +200,6 @@ impl FileReader {
         let tally = run.tally;
         let at = run.at;
         FileReader {
-            day: self.day,
             steps,
             named,
             length: total,
@@ -249,7 +207,7 @@ impl FileReader {
             powers,
             held: least_length(piece.len() - at, HELD as usize) as u32,
             line: first_bytes(piece, at),
-            header,
+            ..self
         }
     }
 
@@ -264,12 +222,12 @@ impl FileReader {
         let whole = whole_line(line, self.held, piece, end);
         let text = whole.text;
         if piece.len() <= end {
-            let mut next = self;
-            next.length = total;
-            next.held = whole.length;
-            let line = without_last(text);
-            next.line = line;
-            return next;
+            return FileReader {
+                length: total,
+                held: whole.length,
+                line: first_bytes(&text, 0),
+                ..self
+            };
         }
         let header = self.header;
         let n = least(self.named, LONGEST_HEADER) as usize;
@@ -294,9 +252,10 @@ impl FileReader {
     {
         let total = length_with(self.length, piece);
         if (self.named < SHORTEST_HEADER) | (MOST_BYTES < total) {
-            let mut next = self;
-            next.length = total;
-            return next;
+            return FileReader {
+                length: total,
+                ..self
+            };
         }
         if self.held == 0 {
             let tally = self.tally;
@@ -307,15 +266,12 @@ impl FileReader {
     }
 
     // The end: the notification, or the first refusal of 1 to 8.
-    pub fn end(self) -> Reading
+    pub fn end(self) -> Result<Notification, Refusal>
         ensures { result ≡ ended (in_hand self) }
     {
-        if self.named < SHORTEST_HEADER {
-            return refuse(Refusal::Input(InputRefusal::Name, 0));
-        }
-        if (self.length < 1) | (MOST_BYTES < self.length) | (self.held != 0) {
-            return refuse(Refusal::Input(InputRefusal::Body, 0));
-        }
+        refuse_if(self.named < SHORTEST_HEADER, InputRefusal::Name)?;
+        let whole = (1 <= self.length) & (self.length <= MOST_BYTES) & (self.held == 0);
+        refuse_if(!whole, InputRefusal::Body)?;
         let header = self.header;
         let n = least(self.named, LONGEST_HEADER) as usize;
         let key = key_of(&header[..n], self.day);

@@ -6,8 +6,8 @@ ghost use Rattle.reader.specs.Folding.{take_step, take_steps, RunOn};
 ghost use Rattle.notification.specs.Reading.{lines_in};
 
 use crate::marks::{good_line, half_hours, room_in, run_end};
-use crate::power::{Power, power_at};
-use crate::tally::{LinePower, Tally, count, is_over, note};
+use crate::power::power_at;
+use crate::tally::{Run, StepFault, Tally, count, is_over, note};
 use calendar::labels_of;
 use lists::bytes::byte_from;
 
@@ -23,18 +23,11 @@ fn stands(line: &[u8], at: usize, text: &[u8], n: usize) -> bool
     if line.len() <= end {
         return false;
     }
-    let mut i: usize = 0;
-    while i < n {
-        if line[at + i] != text[i] {
-            return false;
-        }
-        i += 1;
-    }
-    line[end] == b';'
+    (line[at..end] == text[..n]) & (line[end] == b';')
 }
 
 // The power of a step's line, or what is wrong with it: the labels first.
-fn line_power(steps: u32, k: u32, line: &[u8]) -> LinePower
+fn line_power(steps: u32, k: u32, line: &[u8]) -> Result<u16, StepFault>
     requires { (k < steps) × (steps ≤ places) }
     ensures { result ≡ line_power steps k line.now }
 {
@@ -44,22 +37,19 @@ fn line_power(steps: u32, k: u32, line: &[u8]) -> LinePower
     let m = from.len as usize;
     let n = until.len as usize;
     if !stands(line, 0, &from.bytes, m) {
-        return LinePower::NoLabels;
+        return Err(StepFault::NoLabels);
     }
     if !stands(line, m + 1, &until.bytes, n) {
-        return LinePower::NoLabels;
+        return Err(StepFault::NoLabels);
     }
     let at = m + n + 2;
-    let power = power_at(line, at);
-    match power {
-        Power::Is(v, len) => {
-            if at + len == line.len() {
-                LinePower::Gives(v)
-            } else {
-                LinePower::NoPower
-            }
-        }
-        Power::Not => LinePower::NoPower,
+    let Some((v, len)) = power_at(line, at) else {
+        return Err(StepFault::NoPower);
+    };
+    if at + len == line.len() {
+        Ok(v)
+    } else {
+        Err(StepFault::NoPower)
     }
 }
 
@@ -76,15 +66,8 @@ fn take_step(t: Tally, steps: u32, line: &[u8], powers: &mut [u16; 50]) -> Tally
     note(t, FIRST_LINE, said, powers)
 }
 
-// Lines that were taken, and where the next one begins.
-#[derive(Clone, Copy)]
-pub struct Run {
-    pub tally: Tally,
-    pub at: usize,
-}
-
 // The good lines from a place on, each taken at once, up to the first that isn't plainly good.
-fn good_run(t: Tally, steps: u32, body: &[u8], from: usize, powers: &mut [u16; 50]) -> Run
+fn good_run(t: Tally, steps: u32, body: &[u8], from: usize, powers: &mut [u16; 50]) -> Run<Tally>
     requires { (steps ≤ places) × (from ≤ length body.now) }
     ensures { RunOn steps body.now
         from (record { tally = t; powers = powers.old })
@@ -106,25 +89,17 @@ fn good_run(t: Tally, steps: u32, body: &[u8], from: usize, powers: &mut [u16; 5
     let mut i = half_hours(steps, k) as usize * 6;
     let mut at = from;
     let room = room_in(body);
+    // By hand: how many lines were good is the answer, which a `for` would count beside its own.
     while k < stop {
-        let line = good_line(body, at, room, times, i);
-        match line {
-            Power::Is(power, n) => {
-                powers[k as usize] = power;
-                at += n;
-                k += 1;
-                i += 6;
-            }
-            Power::Not => {
-                break;
-            }
-        }
+        let Some((power, n)) = good_line(body, at, room, times, i) else {
+            break;
+        };
+        powers[k as usize] = power;
+        at += n;
+        k += 1;
+        i += 6;
     }
-    let tally = Tally {
-        lines: k,
-        fault: t.fault,
-        place: t.place,
-    };
+    let tally = Tally { lines: k, ..t };
     Run { tally, at }
 }
 
@@ -135,7 +110,7 @@ pub(crate) fn take_steps(
     body: &[u8],
     from: usize,
     powers: &mut [u16; 50],
-) -> Run
+) -> Run<Tally>
     requires { (steps ≤ places) × (from ≤ length body.now) }
     ensures powers_after { record { tally = result.tally; powers = powers.new }
         ≡ take_steps steps (record { tally = t; powers = powers.old })

@@ -87,12 +87,6 @@ decided P (Err r) done refused f g = g r refl
 
 -- ---- tests tried one after another
 
-pub tried_met : (v : Verdict) (met : Bool) (r : Refusal) → v ≡ pass → met ≡ true → Err r ≡ tried v (met, r)
-tried_met v met r e m = rw (e, m)
-
-pub tried_after : (v : Verdict) (q : Refusal) (met : Bool) (r : Refusal) → v ≡ Err q → Err q ≡ tried v (met, r)
-tried_after v q met r e = rw e
-
 abbrev pub tried_all : Verdict → List Test → Verdict
 tried_all v [] = v
 tried_all v (t ∷ ts) = tried_all (tried v t) ts

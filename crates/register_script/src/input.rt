@@ -1,52 +1,37 @@
 // Standard input by blocks.
-ghost use Rattle.std.specs.Prelude.{◌≤◌, length};
+ghost use Rattle.std.specs.Prelude.{◌≤◌, length, IfOk};
 
-use crate::saying::say;
+use crate::failing::Failure;
 use crate::trying::read_some;
 use lines::holding::{end_line, hold};
-use std::io::Error;
 
-// The bytes that are there now: where they end, whether nothing comes behind them, and whether the input failed.
+// The bytes that are there now: where they end, and whether nothing comes behind them.
 #[derive(Clone, Copy)]
 pub(crate) struct Block {
     pub(crate) end: usize,
     pub(crate) last: bool,
-    pub(crate) failed: bool,
-}
-
-// Says on standard error that the input failed. The part of a line that is held stays without an answer.
-fn failed(rt: &HostRuntime, error: &Error) -> Block
-    ensures { result.end ≤ 0 }
-{
-    say(rt, "The script can't be read", error);
-    Block {
-        end: 0,
-        last: true,
-        failed: true,
-    }
 }
 
 // Holds the line that starts at a place and has no end yet, and reads more input behind it. At the input's end this
-// line is the last.
-pub(crate) fn next_block(rt: &HostRuntime, input: &mut [u8], from: usize, to: usize) -> Block
-    ensures { result.end ≤ length input.old }
+// line is the last. Where the input fails, what is held of a line stays without an answer.
+pub(crate) fn next_block(
+    rt: &HostRuntime,
+    input: &mut [u8],
+    from: usize,
+    to: usize,
+) -> Result<Block, Failure>
+    ensures { IfOk result (λ block. block.end ≤ length input.old) }
 {
     let held = hold(input, from, to);
-    let n = match read_some(rt, &mut rt.stdin(), &mut input[held..]) {
-        Ok(n) => n,
-        Err(error) => return failed(rt, &error),
-    };
-    if n == 0 {
-        let end = end_line(input, held);
-        return Block {
-            end,
+    match read_some(rt, &mut rt.stdin(), &mut input[held..]) {
+        Ok(0) => Ok(Block {
+            end: end_line(input, held),
             last: true,
-            failed: false,
-        };
-    }
-    Block {
-        end: held + n,
-        last: false,
-        failed: false,
+        }),
+        Ok(n) => Ok(Block {
+            end: held + n,
+            last: false,
+        }),
+        Err(error) => Err(Failure::unread(rt, &error)),
     }
 }

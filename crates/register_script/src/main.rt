@@ -7,6 +7,7 @@
 ghost use Rattle.std.specs.Prelude.{◌≤◌};
 
 mod bodies;
+mod failing;
 mod input;
 mod names;
 mod output;
@@ -15,7 +16,9 @@ mod running;
 mod saying;
 mod trying;
 
+use crate::running::run;
 use register::Head;
+use session::store::Store;
 use std::process::ExitCode;
 
 // The most bytes that are read at once.
@@ -29,38 +32,32 @@ const PART: usize = 4096;
 
 // Answers standard input to its end. 0: every answer was written; 1: the answers can't be written; 2: the input can't
 // be read.
-fn register_script(rt: &HostRuntime) -> u32
+fn register_script(rt: &HostRuntime) -> u8
     ensures { result ≤ 2 }
 {
     let fresh = Head::fresh();
-    let mut statuses = fresh.statuses;
-    let mut ids = fresh.ids;
-    let mut keys = [0u32; 256];
-    let mut marks = [[0u8; 4]; 256];
-    let mut rows = [[0u16; 50]; 256];
-    let mut numbers = [0u32; 64];
-    let mut approved = [0u16; 64];
-    let mut loads = [[0u16; 50]; 64];
+    let statuses = fresh.statuses;
+    let ids = fresh.ids;
+    let mut store = Store {
+        head: fresh.head,
+        statuses,
+        ids,
+        keys: [0; 256],
+        marks: [[0; 4]; 256],
+        rows: [[0; 50]; 256],
+        numbers: [0; 64],
+        approved: [0; 64],
+        loads: [[0; 50]; 64],
+    };
     let mut part = [0u8; PART];
     let mut input = [0u8; BLOCK];
     let mut output = [0u8; WAITING];
-    running::run(
-        rt,
-        fresh.head,
-        &mut statuses,
-        &mut ids,
-        &mut keys,
-        &mut marks,
-        &mut rows,
-        &mut numbers,
-        &mut approved,
-        &mut loads,
-        &mut part,
-        &mut input,
-        &mut output,
-    )
+    match run(rt, &mut store, &mut part, &mut input, &mut output) {
+        Ok(()) => 0,
+        Err(failure) => failure.status(),
+    }
 }
 
 fn main(rt: HostRuntime) -> ExitCode {
-    ExitCode::from(register_script(&rt) as u8)
+    ExitCode::from(register_script(&rt))
 }

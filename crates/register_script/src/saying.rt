@@ -3,10 +3,8 @@ use std::io::Error;
 
 // An error's text without the number that stands behind the C library's words.
 fn without_number(text: &str) -> &str {
-    match text.rsplit_once(" (os error ") {
-        Some((words, _)) => words,
-        None => text,
-    }
+    text.rsplit_once(" (os error ")
+        .map_or(text, |(words, _)| words)
 }
 
 // Says what failed, and why. Where that can't be said, as where standard error is closed, it isn't.

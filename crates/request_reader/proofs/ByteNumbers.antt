@@ -1,11 +1,12 @@
 -- Bytes as numbers of four and of eight: two numbers are the same where their bytes are. Parts that cover a text together say of the whole
 -- whether it is the same.
 use mathlib.Core.Path.{◌≡◌, refl, sym, ap, ◌∙◌}
-use mathlib.Core.Bool.{Bool, true, false, ◌&&◌}
+use mathlib.Core.Bool.{Bool, true, false, false≢true, ◌&&◌}
 use mathlib.Core.List.{List}
 use Prim.Native.Nat.{ℕ, zero, suc, ◌+◌, ◌-◌, ◌*◌, ◌<◌, ◌≤◌}
 use native.Mathlib.Nat.{add-zero}
 use native.Mathlib.Omega.{arith}
+use Rattle.std.specs.List.{list_all, range_with_len}
 use lib.Dec.{eqb, ltb}
 use lib.ListN.{length, get_or, drop, length-take, length-drop}
 use lib.Seq.{ext_get_or, get_or-take, get_or-drop, take_all}
@@ -232,3 +233,25 @@ module _ (s text : List ℕ) (at : ℕ) (h : at + length text ≤ length s) wher
     text_last g o a =
         let e : 0 + (n - m) ≡ n - m = omega arith in
         rw e at (last_tells s text at 0 n h room (n - m) i m (at + n - m) (omega arith) (omega arith) (omega arith) a) ∙ against_all
+
+  -- ---- words of eight bytes, one after another
+
+  abbrev pub words : ℕ → Bool
+  words k = same (part (at + 8 * k) 8 s) (part (8 * k) 8 text)
+
+  pub words_alike : (m a : ℕ) → 8 * (a + m) ≤ n → Alike s text at 0 (8 * a) → list_all words (range_with_len a m) ≡ true
+      → Alike s text at 0 (8 * (a + m))
+  words_alike zero a g k e = rw add-zero k
+  words_alike (suc m) a g k e =
+      let f = and_left (words a) (list_all words (range_with_len (a + 1) m)) e in
+      let r = and_right (words a) (list_all words (range_with_len (a + 1) m)) e in
+      let q : 8 * a + 8 ≡ 8 * (a + 1) = omega arith in
+      let o : a + 1 + m ≡ a + suc m = omega arith in
+      rw o at (words_alike m (a + 1) (omega arith) (rw q at (text_more (8 * a) 8 k f)) r)
+
+  pub words_differ : (m a : ℕ) → 8 * (a + m) ≤ n → list_all words (range_with_len a m) ≡ false → false ≡ same (part at n s) text
+  words_differ zero a g e = absurd (false≢true (sym e))
+  words_differ (suc m) a g e =
+      by_test (words a)
+      (λ t. words_differ m (a + 1) (omega arith) (rw t at e))
+      (λ f. text_differs (8 * a) 8 (omega arith) f)

@@ -1,54 +1,70 @@
 -- A run of bytes, passed one by one: those of a label up to the quote that ends it, and digits.
 use mathlib.Core.Path.{◌≡◌, refl, sym, ap, ◌∙◌}
-use mathlib.Core.Bool.{Bool, true, false, false≢true}
+use mathlib.Core.Bool.{Bool, true, false, not, false≢true}
 use mathlib.Core.List.{List, [], ◌∷◌, ◌++◌}
-use Prim.Native.Nat.{ℕ, ◌+◌, ◌-◌, ◌<◌, ◌≤◌}
+use Prim.Native.Nat.{ℕ, suc, ◌+◌, ◌-◌, ◌<◌, ◌≤◌}
 use native.Mathlib.Nat.{add-zero}
 use native.Mathlib.Omega.{arith}
 use lib.Dec.{eqb, ltb}
 use lib.ListN.{length, get_or, take, drop, length-take, length-drop, get_or-eq_default, take-append-drop}
 use lib.Seq.{get_or-drop, get_or-take, drop-drop}
 use borrow.Author.Tests.{ltb-true, ltb-false, lt-ltb, le-ltb, eqb-true, eqb-false}
+use Rattle.std.specs.Option.{unwrap_or}
+use Rattle.std.specs.Prelude.{Option}
+use Rattle.std.specs.List.{position, position_or_len}
+use Rattle.lists.proofs.Parts.{rest_all}
 use Rattle.lists.specs.Searches.{every}
 use Rattle.lists.proofs.Tests.{by_test, true_false, and_left, and_right, and_true}
 use Rattle.lists.proofs.Searches.{every_at}
 use Rattle.notification.specs.Forms.{is_digit}
-use Rattle.notification.proofs.Tested.{every_more}
 use Rattle.reader.specs.Walking.{starts_with}
 use Rattle.request.specs.Tokens.{is_blank, quote, inside, tokens, quoted_by}
-use Rattle.request.specs.Writing.{object_most}
 use Rattle.request.specs.Reading.{is_label_byte, is_run}
 use Rattle.request.proofs.Unquoted.{label_unquoted}
-use Rattle.request_reader.specs.Walking.{Past, Walked, RunTo, first_token, framed, between}
+use Rattle.request_reader.specs.Walking.{Past, Walked, Missing, RunTo, first_token, framed, between}
+use Rattle.request_reader.specs.Steps.{FiveAt}
 use Rattle.request_reader.proofs.Fronts.{tokens_run}
 use Rattle.request_reader.proofs.Walks.{walked_found, walked_lost, token_stands, stands_split}
 use Rattle.request_reader.proofs.Values.{by_none, framed_parts, value_found, value_framed}
 
--- ---- one byte after another
+-- ---- as many bytes as pass a test
 
-module _ (p : ℕ → Bool) (none : p 0 ≡ false) (s : List ℕ) (from : ℕ) where
-  abbrev pub RunOn : ℕ → Type 0
-  RunOn i = (from ≤ i) × (from < i → i ≤ length s) × (every p (take (i - from) (drop from s)) ≡ true)
+module _ (p : ℕ → Bool) (none : p 0 ≡ false) where
+  abbrev fails : ℕ → Bool
+  fails b = not (p b)
 
-  pub run_start : RunOn from
-  run_start = let e : from - from ≡ 0 = omega arith in (omega arith, λ h. absurd (omega arith), rw e)
+  prefix_run : (u : List ℕ) → (position_or_len fails u ≤ length u) × (every p (take (position_or_len fails u) u) ≡ true)
+      × (p (get_or u (position_or_len fails u) 0) ≡ false)
+  prefix_run [] = (omega arith, refl, none)
+  prefix_run (b ∷ u) =
+      by_test (p b)
+      (λ t. let x = prefix_run u in let n : 1 + position_or_len fails u ≡ suc (position_or_len fails u) = omega arith in rw (t, n, t) (omega (arith, x.0), x.1, x.2))
+      (λ f. rw f (omega arith, refl, f))
 
-  pub run_more : (i : ℕ) → i < length s → p (get_or s i 0) ≡ true → RunOn i → RunOn (i + 1)
-  run_more i h e (a, b, c) =
-      let n : i + 1 - from ≡ i - from + 1 = omega arith in
-      let m : from + (i - from) ≡ i = omega arith in
-      let k : i - from < length (drop from s) = rw length-drop (omega arith) in
-      let g : p (get_or (drop from s) (i - from) 0) ≡ true = rw (get_or-drop from s (i - from) 0, m) e in (
-        omega arith,
-        λ w. omega arith,
-        rw (n, every_more p (drop from s) (i - from) 0 k) (and_true (every p (take (i - from) (drop from s))) (p (get_or (drop from s) (i - from) 0)) c g),
-      )
+  first_fail : (u : List ℕ) → unwrap_or (position fails u) (length u) ≡ position_or_len fails u
+  first_fail u =
+      by_test (ltb (position_or_len fails u) (length u))
+      (λ t. rw t)
+      (λ t. rw t (omega (arith, (prefix_run u).0, ltb-false (position_or_len fails u) (length u) t)))
 
-  pub run_stop : (i : ℕ) → p (get_or s i 0) ≡ false → RunOn i → RunTo p s from i
-  run_stop i e (a, b, c) = record { on = a; within = b; all = c; stop = e }
-
-  pub run_end : (i : ℕ) → length s ≤ i → RunOn i → RunTo p s from i
-  run_end i h q = run_stop i (rw (get_or-eq_default s 0 h) none) q
+  -- the first place from another on where the test fails, and the end of the text where it fails nowhere
+  pub run_to : (s : List ℕ) (from n : ℕ) (r : Option ℕ) → from ≤ length s
+      → r ≡ position fails (take (length s - from) (drop from s)) → n ≡ unwrap_or r (length (take (length s - from) (drop from s)))
+      → RunTo p s from (from + n)
+  run_to s from n r w e d =
+      let u = drop from s in
+      let all = rest_all from s in
+      let m : n ≡ position_or_len fails u =
+      d ∙ (ap (λ (o : Option ℕ). unwrap_or o (length (take (length s - from) u))) e
+      ∙ (ap (λ (l : List ℕ). unwrap_or (position fails l) (length l)) all ∙ first_fail u)) in
+      let x = prefix_run u in
+      let k : from + n - from ≡ position_or_len fails u = omega arith in
+      record {
+        on = omega arith;
+        within = omega (arith, x.0, length-drop from s);
+        all = rw k x.1;
+        stop = ap p (sym (get_or-drop from s n 0)) ∙ (ap (λ (i : ℕ). p (get_or u i 0)) m ∙ x.2);
+      }
 
 -- a byte that isn't 0 stands within the text
 pub byte_within : (s : List ℕ) (i b : ℕ) → get_or s i 0 ≡ b → (b ≡ 0 → ⊥) → i < length s
@@ -56,6 +72,10 @@ byte_within s i b e f =
     by_test (ltb i (length s))
     (λ t. ltb-true i (length s) t)
     (λ t. absurd (f (sym e ∙ get_or-eq_default s 0 (ltb-false i (length s) t))))
+
+-- five bytes in quotes stand within the text
+pub to_seven : (s : List ℕ) (at : ℕ) → at ≤ length s → FiveAt s at → at + 7 ≤ length s
+to_seven s at h f = let w = byte_within s (at + 6) 34 f.closes (λ (e : 34 ≡ 0). omega arith) in omega arith
 
 -- ---- a label of any bytes
 
@@ -66,13 +86,13 @@ module _ (s : List ℕ) (from : ℕ) (b : is_blank (get_or s from 0) ≡ false) 
   abbrev here : Past s from from
   here = record { on = omega arith; no_blank = b; same_tokens = refl }
 
-  pub loose_unquoted : (get_or s from 0 ≡ quote → ⊥) → length s ≤ object_most → Walked (labelled ∷ []) s from 8193
-  loose_unquoted f h =
+  pub loose_unquoted : (get_or s from 0 ≡ quote → ⊥) → Missing (labelled ∷ []) s from
+  loose_unquoted f =
       walked_lost labelled (by_none (every is_label_byte)) s from from here
       (by_test (labelled (first_token s from))
       (λ e. let v = value_framed (every is_label_byte) s from from here e in
       absurd (f (framed_parts s from (length (inside (first_token s from))) v.0).1))
-      (λ e. e)) h
+      (λ e. e))
 
   module _ (q : get_or s from 0 ≡ quote) (end : ℕ) (r : RunTo is_label_byte s (from + 1) end) where
     abbrev n : ℕ
@@ -92,13 +112,13 @@ module _ (s : List ℕ) (from : ℕ) (b : is_blank (get_or s from 0) ≡ false) 
         let g : from + n + 2 ≡ end + 1 = omega arith in
         rw g at (value_found (every is_label_byte) s from from here n f r.all (label_unquoted (between s from n) r.all))
 
-    pub loose_other : (get_or s end 0 ≡ quote → ⊥) → length s ≤ object_most → Walked (labelled ∷ []) s from 8193
-    loose_other f h =
+    pub loose_other : (get_or s end 0 ≡ quote → ⊥) → Missing (labelled ∷ []) s from
+    loose_other f =
         walked_lost labelled (by_none (every is_label_byte)) s from from here
         (by_test (labelled (first_token s from))
         (λ e. let v = value_framed (every is_label_byte) s from from here e in
         absurd (nowhere_ends (length (inside (first_token s from))) v.0 (ap (every is_label_byte) v.1 ∙ v.2)))
-        (λ e. e)) h
+        (λ e. e))
       where
         nowhere_ends : (m : ℕ) → framed s from m ≡ true → every is_label_byte (between s from m) ≡ true → ⊥
         nowhere_ends m g a =
@@ -140,12 +160,12 @@ module _ (s : List ℕ) (from end : ℕ) (b : is_blank (get_or s from 0) ≡ fal
   run_none : is_run [] ≡ false
   run_none = refl
 
-  pub digits_lost : end ≡ from → length s ≤ object_most → Walked (is_run ∷ []) s from 8193
-  digits_lost e h =
+  pub digits_lost : end ≡ from → Missing (is_run ∷ []) s from
+  digits_lost e =
       walked_lost is_run run_none s from from there
       (by_test (is_run (first_token s from))
       (λ g. absurd (digit_first (first_token s from) g (token_stands is_run run_none s from from there)))
-      (λ g. g)) h
+      (λ g. g))
     where
       digit_first : (t : List ℕ) → is_run t ≡ true → starts_with t (drop from s) ≡ true → ⊥
       digit_first [] g w = false≢true g
@@ -162,8 +182,8 @@ module _ (s : List ℕ) (from end : ℕ) (b : is_blank (get_or s from 0) ≡ fal
         (λ t. ltb-true from end t)
         (λ t. let h = ltb-false from end t in let o = r.on in absurd (some (omega arith)))
 
-    pub digits_within : end ≤ length s
-    digits_within = r.within longer
+    digits_within : end ≤ length s
+    digits_within = r.within
 
     run_length : length run ≡ end - from
     run_length = let w = digits_within in rw (length-take, length-drop) (omega arith)

@@ -9,6 +9,8 @@ use lib.Dec.{eqb, ltb, leb}
 use lib.ListN.{length, get_or, drop, drop_of_length-le}
 use lib.Seq.{drop-cons}
 use borrow.Author.Tests.{ltb-true, lt-ltb, leb-true, eqb-true}
+use Rattle.std.specs.Prelude.{Some, None}
+use Rattle.std.proofs.lemmas.Option.{none-some}
 use Rattle.lists.proofs.Tests.{by_test, true_false, and_left, and_right}
 use Rattle.calendar.specs.Dates.{day_count}
 use Rattle.calendar.specs.Texts.{tens, ones, digit, text_of, pair_of, day_at, day_of}
@@ -130,14 +132,14 @@ text_marks : (x : Moment) → x.day < day_count → marks_stand (moment_text x) 
 unfolding marks_stand moment_text text_of
 text_marks x k = rw (lt-ltb x.day day_count k)
 
-text_time : (x : Moment) → x.day < day_count → x.second < day_seconds → time_in (moment_text x) ≡ x.second
+text_time : (x : Moment) → x.day < day_count → x.second < day_seconds → time_in (moment_text x) ≡ Some x.second
 unfolding time_in moment_text text_of
 text_time x k l =
     let n = x.second in
     let a : n / 3600 < 24 = omega arith in
     let b : n / 60 % 60 < 60 = omega arith in
     let c : n % 60 < 60 = omega arith in
-    rw (lt-ltb x.day day_count k, pair_digits (n / 3600) (omega arith), pair_digits (n / 60 % 60) (omega arith), pair_digits (n % 60) (omega arith), lt-ltb (n / 3600) 24 a, lt-ltb (n / 60 % 60) 60 b, lt-ltb (n % 60) 60 c) (omega arith)
+    rw (lt-ltb x.day day_count k, pair_digits (n / 3600) (omega arith), pair_digits (n / 60 % 60) (omega arith), pair_digits (n % 60) (omega arith), lt-ltb (n / 3600) 24 a, lt-ltb (n / 60 % 60) 60 b, lt-ltb (n % 60) 60 c) (let e : 3600 * (n / 3600) + 60 * (n / 60 % 60) + n % 60 ≡ n = omega arith in ap Some e)
 
 text_date : (x : Moment) → x.day < day_count → day_of (date_digits (moment_text x)) ≡ Number x.day
 unfolding moment_text text_of
@@ -147,53 +149,53 @@ text_date x k = rw (lt-ltb x.day day_count k) (rw (lt-ltb x.day day_count k) at 
 
 module _ (s : List ℕ) where
   -- a moment's text has its marks, a time and a day
-  moment_parts : is_moment_text s ≡ true → (marks_stand s ≡ true) × (time_in s < day_seconds) × (day_of (date_digits s) ≡ Number (moment_in s).day)
+  moment_parts : is_moment_text s ≡ true → (marks_stand s ≡ true) × (time_in s ≡ Some (moment_in s).second) × (day_of (date_digits s) ≡ Number (moment_in s).day)
   moment_parts g =
       let b = moment_back s g in
       let x = moment_in s in
-      let r = in_range_lem x b.0 in
-      let z = ap time_in b.1 ∙ text_time x r.0 r.1 in (
+      let r = in_range_lem x b.0 in (
         ap marks_stand b.1 ∙ text_marks x r.0,
-        omega (arith, r.1, z),
+        ap time_in b.1 ∙ text_time x r.0 r.1,
         ap (λ (y : List ℕ). day_of (date_digits y)) b.1 ∙ text_date x r.0,
       )
 
   -- so a text that lacks one of them is none
-  pub no_marks : marks_stand s ≡ false → false ≡ is_moment_text s
-  no_marks q = by_test (is_moment_text s) (λ f. true_false (marks_stand s) (moment_parts f).0 q) (λ f. sym f)
+  pub no_marks : marks_stand s ≡ false → is_moment_text s ≡ false
+  no_marks q = by_test (is_moment_text s) (λ f. true_false (marks_stand s) (moment_parts f).0 q) (λ f. f)
 
-  pub no_day : day_of (date_digits s) ≡ NoDay → false ≡ is_moment_text s
+  pub no_time : time_in s ≡ None → is_moment_text s ≡ false
+  no_time q = by_test (is_moment_text s) (λ f. absurd (none-some (moment_in s).second (sym q ∙ (moment_parts f).1))) (λ f. f)
+
+  pub no_day : day_of (date_digits s) ≡ NoDay → is_moment_text s ≡ false
   no_day q =
       by_test (is_moment_text s)
       (λ f. let z : NoDay ≡ Number (moment_in s).day = sym q ∙ (moment_parts f).2 in
       let o : ◌≡◌ {A = ℕ} 0 1 = cc in
       absurd (omega arith))
-      (λ f. sym f)
+      (λ f. f)
 
-  module _ (time : ℕ) (et : time ≡ time_in s) where
-    pub no_time : day_seconds ≤ time → false ≡ is_moment_text s
-    no_time k = by_test (is_moment_text s) (λ f. absurd (omega (arith, (moment_parts f).1))) (λ f. sym f)
+  module _ (time : ℕ) (et : time_in s ≡ Some time) (e : length s ≡ 20) where
+    -- a time is one where each of its parts is
+    time_parts : (timed s e ≡ true) × (time ≡ 3600 * h s e + 60 * m s e + t s e)
+    unfolding time_in
+    time_parts =
+        by_test (timed s e)
+        (λ q. let z : Some (3600 * h s e + 60 * m s e + t s e) ≡ Some time = rw q at et in (q, cc))
+        (λ q. let z : None ≡ Some time = rw q at et in absurd (none-some time z))
 
-    module _ (e : length s ≡ 20) (k : time < day_seconds) where
-      -- a time is one where it is below the seconds of a day
-      time_parts : (timed s e ≡ true) × (time ≡ 3600 * h s e + 60 * m s e + t s e)
-      unfolding time_in
-      time_parts =
-          by_test (timed s e)
-          (λ q. (q, et ∙ rw q))
-          (λ q. let z : time ≡ day_seconds = et ∙ rw q in absurd (omega arith))
-
-      -- and a text that has all three is the moment's
-      pub moment_found : (n : ℕ) → marks_stand s ≡ true → day_of (date_digits s) ≡ Number n
-          → (true ≡ is_moment_text s) × (◌≡◌ {A = Moment} (record { day = n; second = time }) (moment_in s))
-      unfolding in_time
-      moment_found n g q =
-          let f = time_parts in
-          let x : Moment = record { day = n; second = time } in
-          let w = made s e n q (parted_made s e g f.0) in
-          let y : moment_text x ≡ s = ap (λ (i : ℕ). moment_text (record { day = n; second = i })) f.1 ∙ w.0 in
-          let i : in_time x ≡ true = rw (lt-ltb n day_count w.1, lt-ltb time day_seconds k) in
-          (sym (ap is_moment_text (sym y) ∙ moment_made x i), sym (moment_read x i) ∙ ap moment_in y)
+    -- and a text that has all three is the moment's
+    pub moment_found : (n : ℕ) → marks_stand s ≡ true → day_of (date_digits s) ≡ Number n
+        → (is_moment_text s ≡ true) × (◌≡◌ {A = Moment} (record { day = n; second = time }) (moment_in s))
+    unfolding in_time
+    moment_found n g q =
+        let f = time_parts in
+        let x : Moment = record { day = n; second = time } in
+        let p = parted_made s e g f.0 in
+        let w = made s e n q p in
+        let y : moment_text x ≡ s = ap (λ (i : ℕ). moment_text (record { day = n; second = i })) f.1 ∙ w.0 in
+        let k : time < day_seconds = omega (arith, f.1, p.hours, p.minutes, p.seconds) in
+        let i : in_time x ≡ true = rw (lt-ltb n day_count w.1, lt-ltb time day_seconds k) in
+        (ap is_moment_text (sym y) ∙ moment_made x i, sym (moment_read x i) ∙ ap moment_in y)
 
 -- the parts of the time, one by one
 pub pair_most : (a b : ℕ) → pair_of a b ≤ 100

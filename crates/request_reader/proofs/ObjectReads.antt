@@ -38,12 +38,13 @@ use Rattle.request.specs.declared.Moment.{Moment}
 use Rattle.request.specs.declared.RequestRead.{RequestRead}
 use Rattle.request.proofs.Fits.{quoted_back}
 use Rattle.request.proofs.MomentTexts.{day_back}
-use Rattle.request_reader.specs.Walking.{starts, Walked}
+use Rattle.request_reader.specs.Walking.{starts, Walked, Missing}
 use Rattle.request_reader.specs.Heads.{party_tests, term_tests, begin_tests, head_tests, PartiesAt, TermsAt}
 use Rattle.request_reader.specs.Steps.{said_by, said_at}
 use Rattle.request_reader.specs.Series.{closing, series_tests, count_of, is_series, first_step, tell_all, SeriesAt}
-use Rattle.request_reader.proofs.Walks.{walked_on}
-use Rattle.request_reader.proofs.Heads.{walked_within}
+use Rattle.request_reader.specs.declared.head.Parties.{Parties}
+use Rattle.request_reader.specs.declared.head.Terms.{Terms}
+use Rattle.request_reader.proofs.Walks.{walked_on, missing_on, missing_first, token_after}
 use Rattle.request_reader.proofs.StepSeries.{fits_append}
 
 -- ---- the object is what stands before the steps, and the steps
@@ -200,90 +201,85 @@ module _ (s : List ℕ) (few : length s ≤ object_most) where
 
 -- ---- by the places that the reader has found
 
-module _ (s : List ℕ) (few : length s ≤ object_most) (a b from : ℕ) (ceder acquirer origin category : List ℕ) (day submitted : Moment)
-    (pa : PartiesAt s a ceder acquirer origin) (te : TermsAt s a b category day submitted) (be : Walked begin_tests s b from) where
+module _ (s : List ℕ) (few : length s ≤ object_most) where
   abbrev all : List (List ℕ)
   all = tokens s
 
-  abbrev terms_rest : List (List ℕ → Bool)
-  terms_rest = drop 1 term_tests
+  headless : Missing head_tests s 0 → refused (input Object) ≡ read_object s
+  headless m = no_object s few (object_parts all ∙ rw m)
 
-  abbrev begin_rest : List (List ℕ → Bool)
-  begin_rest = drop 1 begin_tests
+  pub no_parties : Missing party_tests s 0 → refused (input Object) ≡ read_object s
+  no_parties m = headless (missing_first party_tests (term_tests ++ begin_tests) s 0 m)
 
-  second : Walked (term_tests ++ begin_tests) s a from
-  second = walked_on term_tests (is (quoted status_name)) begin_rest s a b from te.walked be
+  module _ (p : Parties) (pa : PartiesAt s p) where
+    pub no_terms : Missing term_tests s p.at → refused (input Object) ≡ read_object s
+    no_terms m = headless (missing_on party_tests (term_tests ++ begin_tests) s 0 p.at pa.walked (missing_first term_tests begin_tests s p.at m))
 
-  head_walked : Walked head_tests s 0 from
-  head_walked = walked_on party_tests (is (quoted category_name)) (terms_rest ++ begin_tests) s 0 a from pa.walked second
+    module _ (t : Terms) (te : TermsAt s p.at t) where
+      terms_walked : Walked (party_tests ++ term_tests) s 0 t.at
+      terms_walked = walked_on party_tests term_tests s 0 p.at pa.walked t.at te.walked
 
-  pub head_lost : length s < from → refused (input Object) ≡ read_object s
-  head_lost h = no_object s few (object_parts all ∙ rw (head_walked.lost h))
+      pub no_begin : Missing begin_tests s t.at → refused (input Object) ≡ read_object s
+      no_begin m = headless (missing_on (party_tests ++ term_tests) begin_tests s 0 t.at terms_walked m)
 
-  module _ (h : from ≤ length s) where
-    whole_head : starts head_tests all ≡ true
-    whole_head = (head_walked.found h).0
+      module _ (from : ℕ) (be : Walked begin_tests s t.at from) where
+        head_walked : Walked head_tests s 0 from
+        head_walked = walked_on (party_tests ++ term_tests) begin_tests s 0 t.at terms_walked from be
 
-    b_within : b ≤ length s
-    b_within = walked_within (is (quoted status_name)) begin_rest s b from be h
+        after_parties : (i : ℕ) → get_or (tokens (drop p.at s)) i [] ≡ get_or all (13 + i) []
+        after_parties i = token_after party_tests [] s 0 p.at pa.walked i
 
-    a_within : a ≤ length s
-    a_within = walked_within (is (quoted category_name)) terms_rest s a b te.walked b_within
+        its_day : t.day.day ≡ day_read all
+        unfolding day_read
+        its_day = ap (λ (m : Moment). m.day) te.its_day ∙ ap (λ (u : List ℕ). (moment_in (inside u)).day) (after_parties 6)
 
-    after_parties : (i : ℕ) → get_or (tokens (drop a s)) i [] ≡ get_or all (13 + i) []
-    after_parties i = ap (λ (us : List (List ℕ)). get_or us i []) (pa.walked.found a_within).1 ∙ get_or-drop 13 all i []
+        its_category : t.category ≡ six_bytes (text_at 15 all)
+        its_category = te.its_category ∙ ap (λ (u : List ℕ). six_bytes (inside u)) (after_parties 2)
 
-    its_day : day.day ≡ day_read all
-    unfolding day_read
-    its_day = ap (λ (m : Moment). m.day) (te.its_day b_within) ∙ ap (λ (t : List ℕ). (moment_in (inside t)).day) (after_parties 6)
+        its_moment : t.submitted ≡ moment_in (text_at 23 all)
+        its_moment = te.its_moment ∙ ap (λ (u : List ℕ). moment_in (inside u)) (after_parties 10)
 
-    its_category : category ≡ six_bytes (text_at 15 all)
-    its_category = te.its_category b_within ∙ ap (λ (t : List ℕ). six_bytes (inside t)) (after_parties 2)
+        its_key : ◌≡◌ {A = Key} (record { ceder = p.ceder; acquirer = p.acquirer; category = t.category; day = t.day.day }) (request_in all).notification.key
+        unfolding request_in
+        its_key = λ i. record { ceder = pa.its_ceder i; acquirer = pa.its_acquirer i; category = its_category i; day = its_day i }
 
-    its_moment : submitted ≡ moment_in (text_at 23 all)
-    its_moment = te.its_moment b_within ∙ ap (λ (t : List ℕ). moment_in (inside t)) (after_parties 10)
+        module _ (steps : ℕ) (e : steps ≡ steps_of t.day.day) where
+          same_steps : steps ≡ steps_of (day_read all)
+          same_steps = e ∙ ap steps_of its_day
 
-    its_key : ◌≡◌ {A = Key} (record { ceder = ceder; acquirer = acquirer; category = category; day = day.day }) (request_in all).notification.key
-    unfolding request_in
-    its_key = λ i. record { ceder = pa.its_ceder a_within i; acquirer = pa.its_acquirer a_within i; category = its_category i; day = its_day i }
+          pub steps_enough : (1 ≤ steps) × (steps ≤ places)
+          steps_enough =
+              let l = steps_some (day_read all) (head_day all head_walked.passes) in
+              let m = steps_small (day_read all) in
+              (omega (arith, same_steps), omega (arith, same_steps))
 
-    module _ (steps : ℕ) (e : steps ≡ steps_of day.day) where
-      same_steps : steps ≡ steps_of (day_read all)
-      same_steps = e ∙ ap steps_of its_day
+          its_object : is_object all ≡ is_series (tokens (drop from s))
+          its_object = object_parts all ∙ rw (head_walked.passes, ← head_walked.leaves)
 
-      pub steps_enough : (1 ≤ steps) × (steps ≤ places)
-      steps_enough =
-          let l = steps_some (day_read all) (head_day all whole_head) in
-          let m = steps_small (day_read all) in
-          (omega (arith, same_steps), omega (arith, same_steps))
+          pub series_lost : is_series (tokens (drop from s)) ≡ false → refused (input Object) ≡ read_object s
+          series_lost g = no_object s few (its_object ∙ g)
 
-      module _ (x y : Taken) (good : Bool) (se : SeriesAt steps s from x good y) where
-        its_object : is_object all ≡ good
-        its_object = object_parts all ∙ rw (whole_head, ← (head_walked.found h).1) (sym se.its_form)
-
-        pub series_lost : good ≡ false → refused (input Object) ≡ read_object s
-        series_lost g = no_object s few (its_object ∙ g)
-
-        pub series_found : (v : Verdict) → good ≡ true → x ≡ record { tally = no_steps; powers = replicate places 0 } → v ≡ outcome_of steps y.tally y.powers
-            → decide v (accepted (record {
-              notification = record {
-                key = record { ceder = ceder; acquirer = acquirer; category = category; day = day.day };
-                steps = steps;
-                powers = y.powers;
-              };
-              origin = origin;
-              moment = submitted;
-            })) refused ≡ read_object s
-        unfolding steps_read
-        series_found v g ex ev =
-            let n : length all - 33 ≡ length (drop 32 all) - 1 = omega (arith, length-drop 32 all) in
-            let m : count_of (drop 32 all) ≡ step_count all = sym (ap (λ (k : ℕ). k / 14) n) in
-            let d : steps_in (count_of (tokens (drop from s))) (tokens (drop from s)) ≡ steps_read all =
-            ap (λ (us : List (List ℕ)). steps_in (count_of us) us) (head_walked.found h).1 ∙ ap (λ (k : ℕ). steps_in k (drop 32 all)) m in
-            let t : y ≡ tell_all (steps_of (day_read all)) (record { tally = no_steps; powers = replicate places 0 }) (steps_read all) =
-            se.its_steps g ∙ (ap (λ (z : Taken). tell_all steps z (steps_in (count_of (tokens (drop from s))) (tokens (drop from s)))) ex ∙ (ap (λ (q : List (Step (List ℕ))). tell_all steps (record { tally = no_steps; powers = replicate places 0 }) q) d ∙ ap (λ (k : ℕ). tell_all k (record { tally = no_steps; powers = replicate places 0 }) (steps_read all)) same_steps)) in
-            rw (ev, same_steps)
-            (object_read s few (its_object ∙ g) (record { ceder = ceder; acquirer = acquirer; category = category; day = day.day }) y origin submitted its_key t (pa.its_origin a_within) its_moment)
+          pub series_found : (x y : Taken) (v : Verdict) → SeriesAt steps s from x y
+              → x ≡ record { tally = no_steps; powers = replicate places 0 } → v ≡ outcome_of steps y.tally y.powers
+              → decide v (accepted (record {
+                notification = record {
+                  key = record { ceder = p.ceder; acquirer = p.acquirer; category = t.category; day = t.day.day };
+                  steps = steps;
+                  powers = y.powers;
+                };
+                origin = p.origin;
+                moment = t.submitted;
+              })) refused ≡ read_object s
+          unfolding steps_read
+          series_found x y v se ex ev =
+              let n : length all - 33 ≡ length (drop 32 all) - 1 = omega (arith, length-drop 32 all) in
+              let m : count_of (drop 32 all) ≡ step_count all = sym (ap (λ (k : ℕ). k / 14) n) in
+              let d : steps_in (count_of (tokens (drop from s))) (tokens (drop from s)) ≡ steps_read all =
+              ap (λ (us : List (List ℕ)). steps_in (count_of us) us) head_walked.leaves ∙ ap (λ (k : ℕ). steps_in k (drop 32 all)) m in
+              let told-all : y ≡ tell_all (steps_of (day_read all)) (record { tally = no_steps; powers = replicate places 0 }) (steps_read all) =
+              se.its_steps ∙ (ap (λ (z : Taken). tell_all steps z (steps_in (count_of (tokens (drop from s))) (tokens (drop from s)))) ex ∙ (ap (λ (q : List (Step (List ℕ))). tell_all steps (record { tally = no_steps; powers = replicate places 0 }) q) d ∙ ap (λ (k : ℕ). tell_all k (record { tally = no_steps; powers = replicate places 0 }) (steps_read all)) same_steps)) in
+              rw (ev, same_steps)
+              (object_read s few (its_object ∙ se.its_form) (record { ceder = p.ceder; acquirer = p.acquirer; category = t.category; day = t.day.day }) y p.origin t.submitted its_key told-all pa.its_origin its_moment)
 
 -- nothing stands past the end, and nothing is no object
 pub past_end : (s : List ℕ) (at : ℕ) → length s ≤ at → refused (input Object) ≡ read_object (drop at s)

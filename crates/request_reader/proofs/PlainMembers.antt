@@ -7,12 +7,13 @@ use native.Mathlib.Omega.{arith}
 use lib.Dec.{eqb}
 use lib.ListN.{length, get_or, take, drop, take-append-drop, length-take, length-drop}
 use lib.Seq.{drop-drop, take_all}
-use borrow.Author.Tests.{eqb-true}
+use borrow.Author.Tests.{eqb-true, eq-eqb}
 use Rattle.lists.specs.Searches.{every, same}
 use Rattle.lists.proofs.Tests.{and_left, and_right, and_true}
 use Rattle.lists.proofs.Searches.{same_refl, same_true}
 use Rattle.notification.specs.Forms.{is_code, is_category, filled, six_bytes}
 use Rattle.reader.specs.Walking.{starts_with}
+use Rattle.std.specs.Prelude.{Option, Some, None, IfSome}
 use Rattle.request.specs.Tokens.{quoted, tokens, is, quoted_by}
 use Rattle.request.specs.Moments.{moment_in, is_moment_text, is_day_text}
 use Rattle.request.specs.Objects.{ceder_name, acquirer_name, origin_name, category_name, day_name, submitted_name}
@@ -42,7 +43,7 @@ then_quoted t r ts p e = tokens_quoted t r p ∙ ap (λ (x : List (List ℕ)). q
 -- tokens that pass the tests stand between two places
 walked_by : (ps : List (List ℕ → Bool)) (s : List ℕ) (at next : ℕ) → next ≤ length s → starts ps (tokens (drop at s)) ≡ true
     → tokens (drop next s) ≡ drop (length ps) (tokens (drop at s)) → Walked ps s at next
-walked_by ps s at next h e f = record { found = λ i. (e, f); lost = λ i. absurd (omega arith) }
+walked_by ps s at next h e f = record { within = h; passes = e; leaves = f }
 
 -- ---- a member
 
@@ -60,7 +61,7 @@ module _ {A : Type 0} (name : List ℕ) (form : List ℕ → Bool) (value : List
       record {
         walked = walked_by (member_tests (quoted name) (quoted_by form)) s at next h
             (rw (k, same_refl (quoted name), same_refl (58 ∷ []), quoted_by_lem form v, f, same_refl (44 ∷ []))) (rw k);
-        its_value = λ i. ap value (sym (rw k (inside_quoted v)));
+        its_value = ap value (sym (rw k (inside_quoted v)));
       }
 
 -- ---- what a part leaves of the text
@@ -120,12 +121,13 @@ open_walked s n t h e =
     walked_by (is (123 ∷ []) ∷ []) s 0 1 h (rw (k, same_refl (123 ∷ []))) (rw k)
 
 parties_between : (s : List ℕ) → PlainParties s → is_code (part 24 16 s) ≡ true → is_code (part 68 16 s) ≡ true
-    → is_code (part 110 16 s) ≡ true → PartiesAt s 128 (part 24 16 s) (part 68 16 s) (part 110 16 s)
+    → is_code (part 110 16 s) ≡ true
+    → PartiesAt s (record { ceder = part 24 16 s; acquirer = part 68 16 s; origin = part 110 16 s; at = 128 })
 parties_between s p f g h =
     let w = p.within in
     let d = part_leaves s (123 ∷ (quoted ceder_name ++ 58 ∷ 34 ∷ [])) 0 24 p.to_ceder in
     let first : Named ceder_name s 1 24 = sym (drop-drop 1 0 s) ∙ ap (drop 1) d in
-    parties_joined s 1 42 86 128 (part 24 16 s) (part 68 16 s) (part 110 16 s)
+    parties_joined s 1 42 86 _
     (open_walked s 24 (quoted ceder_name ++ 58 ∷ 34 ∷ []) (omega arith) p.to_ceder)
     (member_between ceder_name is_code (λ t. t) s 1 24 16 40 42 first refl (next_ended s 40 acquirer_name 28 p.to_acquirer) refl
     (code_unquoted (part 24 16 s) f) f (omega arith))
@@ -137,7 +139,8 @@ parties_between s p f g h =
 -- what is read of them
 pub plain_parties : (s : List ℕ) → PlainParties s → (a b c : Bool) (x y z : List ℕ)
     → a ≡ is_code (part 24 16 s) → b ≡ is_code (part 68 16 s) → c ≡ is_code (part 110 16 s) → ((a && b) && c) ≡ true
-    → x ≡ filled 16 (part 24 16 s) → y ≡ filled 16 (part 68 16 s) → z ≡ filled 16 (part 110 16 s) → PartiesAt s 128 x y z
+    → x ≡ filled 16 (part 24 16 s) → y ≡ filled 16 (part 68 16 s) → z ≡ filled 16 (part 110 16 s)
+    → PartiesAt s (record { ceder = x; acquirer = y; origin = z; at = 128 })
 plain_parties s p a b c x y z ea eb ec e ex ey ez =
     let ab = and_left (a && b) c e in
     let f = sym ea ∙ and_left a b ab in
@@ -193,7 +196,7 @@ module _ (s : List ℕ) (h : 128 ≤ length s) where
 
 terms_between : (s : List ℕ) (at n : ℕ) (r : Terms) → part at 26 s ≡ quoted category_name ++ 58 ∷ 34 ∷ []
     → is_category (part (at + 26) n s) ≡ true → PlainDates s (at + 26 + n) (six_bytes (part (at + 26) n s)) r
-    → TermsAt s at r.at r.category r.day r.submitted
+    → TermsAt s at r
 terms_between s at n r e f p =
     let from = at + 26 + n in
     let w = p.within in
@@ -206,23 +209,22 @@ terms_between s at n r e f p =
     let n3 : Named submitted_name s (from + 44) (from + 62) =
     rw (next, third) at (next_named s (from + 42) submitted_name 20 p.to_moment) in
     let e3 : Ended s (from + 82) (from + 84) = rw last at (ended_at s (from + 82) p.end) in
-    rw (p.its_place, p.its_category, p.its_day, p.its_moment)
-    (terms_joined s at (from + 2) (from + 44) (from + 84) (six_bytes (part (at + 26) n s)) (moment_in day) (moment_in moment)
-    (member_between category_name is_category six_bytes s at (at + 26) n from (from + 2) (named_at s at category_name 26 e) refl
-    (next_ended s from day_name 22 p.to_day) refl (category_unquoted (part (at + 26) n s) f) f (omega arith))
-    (member_between day_name is_day_text moment_in s (from + 2) (from + 22) 20 (from + 42) (from + 44)
-    (next_named s from day_name 22 p.to_day) (omega arith) e2 refl (day_text_unquoted day p.a_day) p.a_day (omega arith))
-    (member_between submitted_name is_moment_text moment_in s (from + 44) (from + 62) 20 (from + 82) (from + 84) n3 (omega arith) e3
+    terms_joined s at (from + 2) (from + 44) r
+    (rw p.its_category (member_between category_name is_category six_bytes s at (at + 26) n from (from + 2) (named_at s at category_name 26 e) refl
+    (next_ended s from day_name 22 p.to_day) refl (category_unquoted (part (at + 26) n s) f) f (omega arith)))
+    (rw p.its_day (member_between day_name is_day_text moment_in s (from + 2) (from + 22) 20 (from + 42) (from + 44)
+    (next_named s from day_name 22 p.to_day) (omega arith) e2 refl (day_text_unquoted day p.a_day) p.a_day (omega arith)))
+    (rw (p.its_place, p.its_moment) (member_between submitted_name is_moment_text moment_in s (from + 44) (from + 62) 20 (from + 82) (from + 84) n3 (omega arith) e3
     refl (moment_text_unquoted moment p.a_moment) p.a_moment w))
 
 -- what is read of them
-pub plain_terms : (s : List ℕ) (at n w : ℕ) (text good : Bool) (category : List ℕ) (r : Terms) → w ≡ n
+pub plain_terms : (s : List ℕ) (at n w : ℕ) (text good : Bool) (category : List ℕ) (r : Option Terms) → w ≡ n
     → text ≡ same (part at 26 s) (quoted category_name ++ 58 ∷ 34 ∷ []) → text ≡ true → good ≡ is_category (part (at + 26) w s) → good ≡ true
-    → category ≡ six_bytes (part (at + 26) w s) → PlainDates s (at + 26 + n) category r
-    → TermsAt s at r.at r.category r.day r.submitted
-plain_terms s at n w text good category r e et tt eg tg ec p =
+    → category ≡ six_bytes (part (at + 26) w s) → IfSome r (λ t. PlainDates s (at + 26 + n) category t) → IfSome r (λ t. TermsAt s at t)
+plain_terms s at n w text good category None e et tt eg tg ec p = p
+plain_terms s at n w text good category (Some t) e et tt eg tg ec p =
     let x : part (at + 26) w s ≡ part (at + 26) n s = ap (λ (k : ℕ). part (at + 26) k s) e in
-    terms_between s at n r (same_true (part at 26 s) (quoted category_name ++ 58 ∷ 34 ∷ []) (sym et ∙ tt))
+    terms_between s at n t (same_true (part at 26 s) (quoted category_name ++ 58 ∷ 34 ∷ []) (sym et ∙ tt))
     (ap is_category (sym x) ∙ (sym eg ∙ tg)) (rw (ec ∙ ap six_bytes x) at p)
 
 -- ---- a part of a part
@@ -249,19 +251,15 @@ module _ (s : List ℕ) (from w : ℕ) (e : w ≡ 84) (h : from + 84 ≤ length 
 
   pub plain_dates : (a b c : Bool) → a ≡ same (part 0 22 t) (member_from day_name) → b ≡ same (part 42 20 t) (member_from submitted_name)
       → c ≡ same (part 82 2 t) (34 ∷ 44 ∷ []) → ((a && b) && c) ≡ true
-      → (f g : Bool) → f ≡ is_moment_text (part 22 20 t) → (f ≡ true → r.day ≡ moment_in (part 22 20 t))
-      → g ≡ is_moment_text (part 62 20 t) → (g ≡ true → r.submitted ≡ moment_in (part 62 20 t))
-      → ((f && g) && eqb r.day.second 0) ≡ true → PlainDates s from category r
+      → (is_moment_text (part 22 20 t) ≡ true) × (r.day ≡ moment_in (part 22 20 t))
+      → (is_moment_text (part 62 20 t) ≡ true) × (r.submitted ≡ moment_in (part 62 20 t))
+      → r.day.second ≡ 0 → PlainDates s from category r
   unfolding is_day_text
-  plain_dates a b c ea eb ec texts f g ef df eg dg goods =
+  plain_dates a b c ea eb ec texts first second z =
       let ab = and_left (a && b) c texts in
-      let fg = and_left (f && g) (eqb r.day.second 0) goods in
-      let z = and_right (f && g) (eqb r.day.second 0) goods in
-      let first = and_left f g fg in
-      let second = and_right f g fg in
       let day = inner 22 20 (from + 22) (omega arith) refl in
       let moment = inner 62 20 (from + 62) (omega arith) refl in
-      let its_day : r.day ≡ moment_in (part (from + 22) 20 s) = df first ∙ ap moment_in day in
+      let its_day : r.day ≡ moment_in (part (from + 22) 20 s) = first.1 ∙ ap moment_in day in
       record {
         within = h;
         its_place = its_place;
@@ -269,12 +267,12 @@ module _ (s : List ℕ) (from w : ℕ) (e : w ≡ 84) (h : from + 84 ≤ length 
         to_day = sym (inner 0 22 from (omega arith) (omega arith))
             ∙ same_true (part 0 22 t) (member_from day_name) (sym ea ∙ and_left a b ab);
         a_day = and_true (is_moment_text (part (from + 22) 20 s)) (eqb (moment_in (part (from + 22) 20 s)).second 0)
-            (ap is_moment_text (sym day) ∙ (sym ef ∙ first)) (ap (λ (x : Moment). eqb x.second 0) (sym its_day) ∙ z);
+            (ap is_moment_text (sym day) ∙ first.0) (ap (λ (x : Moment). eqb x.second 0) (sym its_day) ∙ eq-eqb r.day.second 0 z);
         its_day = its_day;
         to_moment = sym (inner 42 20 (from + 42) (omega arith) refl)
             ∙ same_true (part 42 20 t) (member_from submitted_name) (sym eb ∙ and_right a b ab);
-        a_moment = ap is_moment_text (sym moment) ∙ (sym eg ∙ second);
-        its_moment = dg second ∙ ap moment_in moment;
+        a_moment = ap is_moment_text (sym moment) ∙ second.0;
+        its_moment = second.1 ∙ ap moment_in moment;
         end = sym (inner 82 2 (from + 82) (omega arith) refl)
             ∙ same_true (part 82 2 t) (34 ∷ 44 ∷ []) (sym ec ∙ and_right (a && b) c texts);
       }

@@ -4,7 +4,10 @@ use mathlib.Core.Path.{◌≡◌, refl, sym, subst}
 use mathlib.Core.List.{List}
 use Prim.Native.Nat.{ℕ, suc, ◌+◌, ◌-◌, ◌*◌, ◌<◌, ◌≤◌}
 use native.Mathlib.Omega.{arith}
+use lib.Dec.{ltb}
 use lib.ListN.{length, set}
+use borrow.Author.Tests.{ltb-true, ltb-false}
+use Rattle.lists.proofs.Tests.{by_test}
 use Rattle.notification.specs.Forms.{places}
 use Rattle.reader.specs.Walking.{half_hours, Plain}
 use Rattle.reader.specs.declared.tally.Tally.{Tally}
@@ -71,6 +74,10 @@ module _ (steps first stop : ℕ) (s : List ℕ) (from : ℕ) (x : Taken) where
             within = f.within;
             onward = onward_on steps s from at next x here there r.onward step;
           }
+
+-- the step that is reached is one of the day
+pub within_day : (first k : ℕ) → first ≤ k → (first < k → k ≤ 50) → first ≤ 50 → k ≤ 50
+within_day first k o f h = by_test (ltb first k) (λ t. f (ltb-true first k t)) (λ t. omega (arith, o, h, ltb-false first k t))
 
 -- and before the first
 pub run_start : (steps stop : ℕ) (s : List ℕ) (from i : ℕ) (t : Tally) (ps : List ℕ)

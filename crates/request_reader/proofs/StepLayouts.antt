@@ -8,46 +8,25 @@ use lib.Dec.{ltb}
 use lib.ListN.{length, get_or, drop}
 use borrow.Author.Tests.{lt-ltb}
 use Rattle.lists.specs.Searches.{every, same}
-use Rattle.lists.proofs.Tests.{true_false, and_true}
+use Rattle.lists.proofs.Tests.{and_true}
 use Rattle.lists.proofs.Searches.{same_true}
 use Rattle.notification.specs.Forms.{is_digit}
 use Rattle.reader.specs.declared.power.Power.{Power}
 use Rattle.reader.specs.declared.power.Power.TheVariants.{Is, Not}
-use Rattle.reader.specs.Walking.{starts_with}
 use Rattle.request.specs.Tokens.{quoted}
 use Rattle.request_reader.specs.declared.layouts.Layout.{Layout}
-use Rattle.request_reader.specs.Walking.{part, Past, Passed, is_mark, is_quoted}
+use Rattle.request_reader.specs.Walking.{part, Passed}
 use Rattle.request_reader.specs.Steps.{before_from, before_until, before_power, LaidOut, LabelEntry, RunSays, OwnSays, FrontAt}
-use Rattle.request_reader.proofs.Walks.{stands_inside, text_long}
-use Rattle.request_reader.proofs.Passing.{passed_on, mark_passed, text_passed}
-use Rattle.request_reader.proofs.SeriesReads.{passed_tokens}
+use Rattle.request_reader.proofs.Passing.{passed_on, passed_tokens}
 use Rattle.request_reader.proofs.LaidFronts.{label_again, run_token, run_length}
 
 -- ---- up to a label or to the power
 
--- a text of so many bytes stands within the text
-pub text_inside : (s t : List ℕ) (at n : ℕ) → is_quoted t ≡ true → length t ≡ n → starts_with t (drop at s) ≡ true → at + n ≤ length s
-text_inside s t at n q long e = rw long at (stands_inside s t at (text_long t q) e)
-
--- a byte by itself, a member's name of so many bytes and its colon, each after blanks, and blanks
-module _ (s : List ℕ) (b : ℕ) (m : is_mark b ≡ true) (name : List ℕ) (q : is_quoted name ≡ true) (n : ℕ) (long : length name ≡ n)
-    (at mark text colon from : ℕ) where
-  pub named_passed : Past s at mark → (at ≤ length s → Passed [] s at mark) → get_or s mark 0 ≡ b
-      → Past s (mark + 1) text → (mark + 1 ≤ length s → Passed [] s (mark + 1) text) → starts_with name (drop text s) ≡ true
-      → Past s (text + n) colon → (text + n ≤ length s → Passed [] s (text + n) colon) → get_or s colon 0 ≡ 58
-      → (colon + 1 ≤ length s → Passed [] s (colon + 1) from) → Passed ((b ∷ []) ∷ name ∷ (58 ∷ []) ∷ []) s at from
-  unfolding is_mark
-  named_passed p1 v1 e1 p2 v2 e2 p3 v3 e3 v4 =
-      let marked = mark_passed s at mark p1 v1 b m e1 in
-      let named : Passed (name ∷ []) s (mark + 1) (text + n) = rw long at (text_passed s (mark + 1) text p2 v2 name q e2) in
-      let closed = mark_passed s (text + n) colon p3 v3 58 refl e3 in
-      passed_on ((b ∷ []) ∷ []) (name ∷ (58 ∷ []) ∷ []) s at (mark + 1) from marked
-      (passed_on (name ∷ []) ((58 ∷ []) ∷ []) s (mark + 1) (text + n) from named
-      (passed_on ((58 ∷ []) ∷ []) [] s (text + n) (colon + 1) from closed (v4 closed.within)))
-
--- where no layout was found, nothing is claimed of one
-pub no_claims : {A B : Type 0} (regular : Bool) → regular ≡ false → (regular ≡ true → A) × (regular ≡ true → B)
-no_claims regular e = (λ r. true_false regular r e, λ r. true_false regular r e)
+-- a byte by itself, a member's name and its colon, and blanks
+pub named_passed : (b : ℕ) (name s : List ℕ) (at mark text from : ℕ) → Passed ((b ∷ []) ∷ []) s at mark → Passed (name ∷ []) s mark text
+    → Passed ((58 ∷ []) ∷ []) s text from → Passed ((b ∷ []) ∷ name ∷ (58 ∷ []) ∷ []) s at from
+named_passed b name s at mark text from p q r =
+    passed_on ((b ∷ []) ∷ []) (name ∷ (58 ∷ []) ∷ []) s at mark from p (passed_on (name ∷ []) ((58 ∷ []) ∷ []) s mark text from q r)
 
 -- ---- a step by its own places
 

@@ -20,38 +20,33 @@ use Rattle.reader.specs.declared.tally.LinePower.TheVariants.{Gives, NoLabels, N
 use Rattle.reader.proofs.Figures.{power_in, power_sound}
 use Rattle.reader.proofs.Judging.{power_whole, power_only}
 use Rattle.request.specs.Tokens.{quoted, inside, tokens, is, quoted_by}
-use Rattle.request.specs.Writing.{object_most}
 use Rattle.request.specs.Reading.{is_label_byte, is_run}
 use Rattle.request.specs.Objects.{from_name, until_name, power_name}
 use Rattle.request.proofs.Unquoted.{label_unquoted}
-use Rattle.request_reader.specs.Walking.{starts, Past, Walked, Opened, RunTo, first_token, framed, between}
-use Rattle.request_reader.specs.Steps.{label_tests, LabelAt, power_of, PowerAt, front_tests, step_in, said_of, said_by, StepAt, FiveAt}
-use Rattle.request_reader.proofs.Walks.{starts_one, walked_on}
+use Rattle.request_reader.specs.Walking.{starts, Past, Walked, Missing, Opened, RunTo, first_token, framed, between}
+use Rattle.request_reader.specs.Steps.{label_tests, LabelAt, power_of, power_tests, PowerAt, front_tests, step_in, said_of, said_by, StepAt, FiveAt}
+use Rattle.request_reader.proofs.Walks.{starts_one, walked_on, missing_on, missing_first, token_after}
 use Rattle.request.proofs.Fits.{inside_quoted}
-use Rattle.request_reader.proofs.Values.{by_none, value_found, value_framed, value_tokens, value_token}
-use Rattle.request_reader.proofs.Heads.{walked_within}
+use Rattle.request_reader.proofs.Values.{by_none, value_found, value_framed, value_tokens, opened_token}
 use Rattle.request_reader.proofs.ByteRuns.{digits_lost, digits_found, digits_token}
 
 -- ---- a walk from a place past blanks is one from before them
 
 pub walked_past : (ps : List (List ℕ → Bool)) (s : List ℕ) (at from next : ℕ) → Past s at from → Walked ps s from next → Walked ps s at next
-walked_past ps s at from next p w =
-    record {
-      found = λ h. rw p.same_tokens at (w.found h);
-      lost = λ h. rw p.same_tokens at (w.lost h);
-    }
+walked_past ps s at from next p w = record { within = w.within; passes = rw p.same_tokens at w.passes; leaves = rw p.same_tokens at w.leaves }
+
+pub missing_past : (ps : List (List ℕ → Bool)) (s : List ℕ) (at from : ℕ) → Past s at from → Missing ps s from → Missing ps s at
+missing_past ps s at from p m = rw p.same_tokens at m
 
 module _ (name s : List ℕ) (at from : ℕ) (o : Opened (is name ∷ is (58 ∷ []) ∷ []) s at from) where
-  -- the third token is the first one from the value's place on
-  pub opened_token : o.mid ≤ length s → get_or (tokens (drop at s)) 2 [] ≡ first_token s from
-  opened_token h =
-      sym (ap (λ (ts : List (List ℕ)). get_or ts 0 []) (o.past.same_tokens ∙ (o.walked.found h).1) ∙ get_or-drop 2 (tokens (drop at s)) 0 [])
+  abbrev named : List (List ℕ → Bool)
+  named = is name ∷ is (58 ∷ []) ∷ []
 
   value_walked : (q : List ℕ → Bool) (next : ℕ) → Walked (q ∷ []) s from next → Walked (is name ∷ is (58 ∷ []) ∷ q ∷ []) s at next
-  value_walked q next w = walked_on (is name ∷ is (58 ∷ []) ∷ []) q [] s at o.mid next o.walked (walked_past (q ∷ []) s o.mid from next o.past w)
+  value_walked q next w = walked_on named (q ∷ []) s at o.mid o.walked next (walked_past (q ∷ []) s o.mid from next o.past w)
 
-  value_within : (q : List ℕ → Bool) (next : ℕ) → Walked (q ∷ []) s from next → next ≤ length s → o.mid ≤ length s
-  value_within q next w h = walked_within q [] s o.mid next (walked_past (q ∷ []) s o.mid from next o.past w) h
+  pub value_missing : (q : List ℕ → Bool) → Missing (q ∷ []) s from → Missing (is name ∷ is (58 ∷ []) ∷ q ∷ []) s at
+  value_missing q m = missing_on named (q ∷ []) s at o.mid o.walked (missing_past (q ∷ []) s o.mid from o.past m)
 
   -- ---- a label
 
@@ -65,10 +60,11 @@ module _ (name s : List ℕ) (at from : ℕ) (o : Opened (is name ∷ is (58 ∷
         let l : every is_label_byte (between s from n) ≡ true = ap (every is_label_byte) g ∙ a in
         let u = label_unquoted (between s from n) l in
         let k = value_tokens (every is_label_byte) s o.mid from o.past n f u in
-        let t = value_token (is name ∷ is (58 ∷ []) ∷ []) s at from o (quoted (between s from n)) (tokens (drop (from + n + 2) s)) k in
+        let t : get_or (tokens (drop at s)) 2 [] ≡ quoted (between s from n) =
+        opened_token named s at from o ∙ ap (λ (ts : List (List ℕ)). get_or ts 0 []) k in
         record {
-          walked = walked_on (is name ∷ is (58 ∷ []) ∷ []) (quoted_by (every is_label_byte)) [] s at o.mid (from + n + 2) o.walked (value_found (every is_label_byte) s o.mid from o.past n f l u);
-          its_label = λ h. sym (ap (λ (x : List ℕ). same x (quoted wanted)) (t ∙ ap quoted g) ∙ same_refl (quoted wanted));
+          walked = walked_on named (quoted_by (every is_label_byte) ∷ []) s at o.mid o.walked (from + n + 2) (value_found (every is_label_byte) s o.mid from o.past n f l u);
+          its_label = sym (ap (λ (x : List ℕ). same x (quoted wanted)) (t ∙ ap quoted g) ∙ same_refl (quoted wanted));
         }
 
     pub label_other : (next : ℕ) → (framed s from (length wanted) && same (between s from (length wanted)) wanted) ≡ false
@@ -76,12 +72,12 @@ module _ (name s : List ℕ) (at from : ℕ) (o : Opened (is name ∷ is (58 ∷
     label_other next e w =
         record {
           walked = value_walked (quoted_by (every is_label_byte)) next w;
-          its_label = λ h.
-              let t = opened_token (value_within (quoted_by (every is_label_byte)) next w h) in
+          its_label =
+              let t = opened_token named s at from o in
               by_test (same (get_or (tokens (drop at s)) 2 []) (quoted wanted))
               (λ f. let g : first_token s from ≡ quoted wanted = sym t ∙ same_true (get_or (tokens (drop at s)) 2 []) (quoted wanted) f in
               let i : inside (first_token s from) ≡ wanted = ap inside g ∙ inside_quoted wanted in
-              let b : quoted_by (every is_label_byte) (first_token s from) ≡ true = first_labelled (w.found h).0 in
+              let b : quoted_by (every is_label_byte) (first_token s from) ≡ true = first_labelled w.passes in
               let v = value_framed (every is_label_byte) s o.mid from o.past b in
               let x : framed s from (length wanted) ≡ true = rw i at v.0 in
               let y : between s from (length wanted) ≡ wanted = rw i at v.1 in
@@ -95,19 +91,14 @@ module _ (name s : List ℕ) (at from : ℕ) (o : Opened (is name ∷ is (58 ∷
   -- ---- a power
 
   module _ (end : ℕ) (r : RunTo is_digit s from end) where
-    pub power_lost : (power : Power) → end ≡ from → length s ≤ object_most → PowerAt name s at 8193 power
-    power_lost power e h =
-        record {
-          walked = value_walked is_run 8193 (digits_lost s from end o.past.no_blank r e h);
-          its_power = λ i. absurd (omega arith);
-        }
+    pub power_lost : end ≡ from → Missing (power_tests name) s at
+    power_lost e = value_missing is_run (digits_lost s from end o.past.no_blank r e)
 
     pub power_read : (power : Power) → (end ≡ from → ⊥) → power ≡ power_of (take (end - from) (drop from s)) → PowerAt name s at end power
     power_read power f e =
-        let w = digits_found s from end o.past.no_blank r f in
         record {
-          walked = value_walked is_run end w;
-          its_power = λ h. e ∙ ap power_of (sym (opened_token (value_within is_run end w h) ∙ digits_token s from end o.past.no_blank r f));
+          walked = value_walked is_run end (digits_found s from end o.past.no_blank r f);
+          its_power = e ∙ ap power_of (sym (opened_token named s at from o ∙ digits_token s from end o.past.no_blank r f));
         }
 
 -- ---- a byte of a run, and what ends it
@@ -189,84 +180,88 @@ third_passes a b q (x ∷ y ∷ z ∷ us) e = and_left (q z) true (and_right (b 
 
 -- ---- THE STEP
 
-module _ (from until s : List ℕ) (at inner first next second last third : ℕ) (right₁ right₂ : Bool) (power : Power)
-    (w1 : Walked (is (123 ∷ []) ∷ []) s at inner) (l1 : LabelAt (quoted from_name) from s inner first right₁)
-    (w2 : Walked (is (44 ∷ []) ∷ []) s first next) (l2 : LabelAt (quoted until_name) until s next second right₂)
-    (w3 : Walked (is (44 ∷ []) ∷ []) s second last) (p1 : PowerAt (quoted power_name) s last third power) where
-  abbrev ts : List (List ℕ)
-  ts = tokens (drop at s)
+abbrev a_comma : List (List ℕ → Bool)
+a_comma = is (44 ∷ []) ∷ []
 
-  abbrev t1 : List (List ℕ → Bool)
-  t1 = is (123 ∷ []) ∷ []
+-- the tests of a step's tokens up to its first label, the comma after it, and so on
+abbrev tests1 : List (List ℕ → Bool)
+tests1 = is (123 ∷ []) ∷ []
 
-  abbrev t2 : List (List ℕ → Bool)
-  t2 = is (123 ∷ []) ∷ label_tests (quoted from_name)
+abbrev tests2 : List (List ℕ → Bool)
+tests2 = is (123 ∷ []) ∷ label_tests (quoted from_name)
 
-  abbrev t3 : List (List ℕ → Bool)
-  t3 = is (123 ∷ []) ∷ (label_tests (quoted from_name) ++ is (44 ∷ []) ∷ [])
+abbrev tests3 : List (List ℕ → Bool)
+tests3 = is (123 ∷ []) ∷ (label_tests (quoted from_name) ++ a_comma)
 
-  abbrev t4 : List (List ℕ → Bool)
-  t4 = is (123 ∷ []) ∷ (label_tests (quoted from_name) ++ is (44 ∷ []) ∷ label_tests (quoted until_name))
+abbrev tests4 : List (List ℕ → Bool)
+tests4 = is (123 ∷ []) ∷ (label_tests (quoted from_name) ++ is (44 ∷ []) ∷ label_tests (quoted until_name))
 
-  abbrev t5 : List (List ℕ → Bool)
-  t5 = is (123 ∷ []) ∷ (label_tests (quoted from_name) ++ is (44 ∷ []) ∷ (label_tests (quoted until_name) ++ is (44 ∷ []) ∷ []))
+abbrev tests5 : List (List ℕ → Bool)
+tests5 = is (123 ∷ []) ∷ (label_tests (quoted from_name) ++ is (44 ∷ []) ∷ (label_tests (quoted until_name) ++ a_comma))
 
-  abbrev rest : (List ℕ → Bool) → List (List ℕ → Bool)
-  rest q = is (58 ∷ []) ∷ q ∷ []
+-- where one of them is missing, no step stands there
+module _ (s : List ℕ) (at : ℕ) where
+  pub no_brace : Missing tests1 s at → Missing front_tests s at
+  no_brace m = missing_first tests1 (drop 1 front_tests) s at m
 
-  v2 : Walked t2 s at first
-  v2 = walked_on t1 (is (quoted from_name)) (rest (quoted_by (every is_label_byte))) s at inner first w1 l1.walked
+  module _ (inner : ℕ) (w1 : Walked tests1 s at inner) where
+    pub no_label : Missing (label_tests (quoted from_name)) s inner → Missing front_tests s at
+    no_label m = missing_on tests1 (drop 1 front_tests) s at inner w1 (missing_first (label_tests (quoted from_name)) (drop 4 front_tests) s inner m)
 
-  v3 : Walked t3 s at next
-  v3 = walked_on t2 (is (44 ∷ [])) [] s at first next v2 w2
+    module _ (from : List ℕ) (first : ℕ) (right₁ : Bool) (l1 : LabelAt (quoted from_name) from s inner first right₁) where
+      w2 : Walked tests2 s at first
+      w2 = walked_on tests1 (label_tests (quoted from_name)) s at inner w1 first l1.walked
 
-  v4 : Walked t4 s at second
-  v4 = walked_on t3 (is (quoted until_name)) (rest (quoted_by (every is_label_byte))) s at next second v3 l2.walked
+      pub no_comma : Missing a_comma s first → Missing front_tests s at
+      no_comma m = missing_on tests2 (drop 4 front_tests) s at first w2 (missing_first a_comma (drop 5 front_tests) s first m)
 
-  v5 : Walked t5 s at last
-  v5 = walked_on t4 (is (44 ∷ [])) [] s at second last v4 w3
+      module _ (next : ℕ) (v3 : Walked a_comma s first next) where
+        w3 : Walked tests3 s at next
+        w3 = walked_on tests2 a_comma s at first w2 next v3
 
-  v6 : Walked front_tests s at third
-  v6 = walked_on t5 (is (quoted power_name)) (rest is_run) s at last third v5 p1.walked
+        pub no_second : Missing (label_tests (quoted until_name)) s next → Missing front_tests s at
+        no_second m = missing_on tests3 (drop 5 front_tests) s at next w3 (missing_first (label_tests (quoted until_name)) (drop 8 front_tests) s next m)
 
-  module _ (h : third ≤ length s) where
-    hl : last ≤ length s
-    hl = walked_within (is (quoted power_name)) (rest is_run) s last third p1.walked h
+        module _ (until : List ℕ) (second : ℕ) (right₂ : Bool) (l2 : LabelAt (quoted until_name) until s next second right₂) where
+          w4 : Walked tests4 s at second
+          w4 = walked_on tests3 (label_tests (quoted until_name)) s at next w3 second l2.walked
 
-    second_within : second ≤ length s
-    second_within = walked_within (is (44 ∷ [])) [] s second last w3 hl
+          pub no_last : Missing a_comma s second → Missing front_tests s at
+          no_last m = missing_on tests4 (drop 8 front_tests) s at second w4 (missing_first a_comma (drop 9 front_tests) s second m)
 
-    hn : next ≤ length s
-    hn = walked_within (is (quoted until_name)) (rest (quoted_by (every is_label_byte))) s next second l2.walked second_within
+          module _ (last : ℕ) (v5 : Walked a_comma s second last) where
+            w5 : Walked tests5 s at last
+            w5 = walked_on tests4 a_comma s at second w4 last v5
 
-    first_within : first ≤ length s
-    first_within = walked_within (is (44 ∷ [])) [] s first next w2 hn
+            pub no_power : Missing (power_tests (quoted power_name)) s last → Missing front_tests s at
+            no_power m = missing_on tests5 (power_tests (quoted power_name)) s at last w5 m
 
-    hi : inner ≤ length s
-    hi = walked_within (is (quoted from_name)) (rest (quoted_by (every is_label_byte))) s inner first l1.walked first_within
+            module _ (third : ℕ) (power : Power) (p1 : PowerAt (quoted power_name) s last third power) where
+              abbrev ts : List (List ℕ)
+              ts = tokens (drop at s)
 
-    its_from : right₁ ≡ same (get_or ts 3 []) (quoted from)
-    its_from = l1.its_label first_within ∙ ap (λ (x : List ℕ). same x (quoted from)) (ap (λ (us : List (List ℕ)). get_or us 2 []) (w1.found hi).1 ∙ get_or-drop 1 ts 2 [])
+              its_from : right₁ ≡ same (get_or ts 3 []) (quoted from)
+              its_from = l1.its_label ∙ ap (λ (x : List ℕ). same x (quoted from)) (token_after tests1 [] s at inner w1 2)
 
-    its_until : right₂ ≡ same (get_or ts 7 []) (quoted until)
-    its_until = l2.its_label second_within ∙ ap (λ (x : List ℕ). same x (quoted until)) (ap (λ (us : List (List ℕ)). get_or us 2 []) (v3.found hn).1 ∙ get_or-drop 5 ts 2 [])
+              its_until : right₂ ≡ same (get_or ts 7 []) (quoted until)
+              its_until = l2.its_label ∙ ap (λ (x : List ℕ). same x (quoted until)) (token_after tests3 [] s at next w3 2)
 
-    power_token : get_or (tokens (drop last s)) 2 [] ≡ get_or ts 11 []
-    power_token = ap (λ (us : List (List ℕ)). get_or us 2 []) (v5.found hl).1 ∙ get_or-drop 9 ts 2 []
+              power_token : get_or (tokens (drop last s)) 2 [] ≡ get_or ts 11 []
+              power_token = token_after tests5 [] s at last w5 2
 
-    -- the twelfth token is a run of digits
-    its_run : every is_digit (get_or ts 11 []) ≡ true
-    its_run =
-        rw power_token at (and_right (ltb 0 (length (get_or (tokens (drop last s)) 2 []))) (every is_digit (get_or (tokens (drop last s)) 2 [])) (third_passes (is (quoted power_name)) (is (58 ∷ [])) is_run (tokens (drop last s)) (p1.walked.found h).0))
+              -- the twelfth token is a run of digits
+              its_run : every is_digit (get_or ts 11 []) ≡ true
+              its_run =
+                  rw power_token at (and_right (ltb 0 (length (get_or (tokens (drop last s)) 2 []))) (every is_digit (get_or (tokens (drop last s)) 2 [])) (third_passes (is (quoted power_name)) (is (58 ∷ [])) is_run (tokens (drop last s)) p1.walked.passes))
 
-    its_said : said_of (right₁ && right₂) power ≡ said_by from until (step_in ts)
-    unfolding said_by
-    its_said =
-        let e : power ≡ power_of (get_or ts 11 []) = p1.its_power h ∙ ap power_of power_token in
-        ap (λ (p : Power). said_of (right₁ && right₂) p) e ∙ (said_run (right₁ && right₂) (get_or ts 11 []) its_run ∙ rw (its_from, its_until))
-
-  pub step_read : (said : LinePower) → said ≡ said_of (right₁ && right₂) power → StepAt from until s at third said
-  step_read said e = record { walked = v6; its_said = λ h. e ∙ its_said h }
+              pub step_read : StepAt from until s at third (said_of (right₁ && right₂) power)
+              unfolding said_by
+              step_read =
+                  let e : power ≡ power_of (get_or ts 11 []) = p1.its_power ∙ ap power_of power_token in
+                  record {
+                    walked = walked_on tests5 (power_tests (quoted power_name)) s at last w5 third p1.walked;
+                    its_said = ap (λ (p : Power). said_of (right₁ && right₂) p) e ∙ (said_run (right₁ && right₂) (get_or ts 11 []) its_run ∙ rw (its_from, its_until));
+                  }
 
 -- ---- a label of five bytes
 

@@ -131,6 +131,6 @@ module _ (steps : ℕ) (s : List ℕ) (at next v : ℕ) (t : Tally) (ps : List �
   front_next e =
       let d : tokens (drop at s) ≡ front = rw e at f.its_tokens in
       record {
-        walked = record { found = λ i. (rw d front_begins, rw d); lost = λ i. absurd (omega (arith, f.within)) };
-        its_tally = λ i. rw d front_told;
+        walked = record { within = f.within; passes = rw d front_begins; leaves = rw d };
+        its_tally = rw d front_told;
       }

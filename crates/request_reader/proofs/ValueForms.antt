@@ -13,11 +13,10 @@ use Rattle.lists.proofs.Tests.{by_test, and_left, and_right, or_cases}
 use Rattle.notification.specs.Forms.{is_digit, is_code_byte, is_code, is_category, filled}
 use Rattle.request.specs.Tokens.{inside, is, quoted_by}
 use Rattle.request.specs.Moments.{is_moment_text, moment_in}
-use Rattle.request.specs.Writing.{object_most}
 use Rattle.request.proofs.MomentTexts.{moment_back, moment_length}
-use Rattle.request_reader.specs.Walking.{Past, Walked, Opened, Valued, first_token, is_plain, framed, between}
+use Rattle.request_reader.specs.Walking.{Past, Walked, Missing, Opened, Valued, value_tests, first_token, is_plain, framed, between}
 use Rattle.request.proofs.Fits.{quoted_back}
-use Rattle.request_reader.proofs.Values.{framed_parts, value_framed, valued_found, valued_lost}
+use Rattle.request_reader.proofs.Values.{framed_parts, value_framed, valued_found, valued_lost, comma_lost}
 
 and_none : (a : Bool) → (a && false) ≡ false
 and_none true = refl
@@ -71,24 +70,30 @@ category_long s at from p e =
 
 -- ---- a member's value as the reader cuts it out
 
-module _ (form : List ℕ → Bool) (plain : (u : List ℕ) → form u ≡ true → every is_plain u ≡ true) {A : Type 0} (value : List ℕ → A)
+module _ (form : List ℕ → Bool) (plain : (u : List ℕ) → form u ≡ true → every is_plain u ≡ true)
     (s : List ℕ) (at from : ℕ) (o : Opened (is (58 ∷ []) ∷ []) s at from) (n : ℕ)
-    (long : quoted_by form (first_token s from) ≡ true → length (inside (first_token s from)) ≡ n)
-    (part : List ℕ) (its-part : part ≡ between s from n) where
-  pub part_found : (f g : Bool) (after next : ℕ) (read : A) → f ≡ framed s from n → f ≡ true → g ≡ form part → g ≡ true
-      → after ≡ from + n + 2 → Walked (is (44 ∷ []) ∷ []) s after next → (next ≤ length s → read ≡ value part) → Valued form value s at next read
-  part_found f g after next read ef tf eg tg ea w r =
-      let c : form (between s from n) ≡ true = ap form (sym its-part) ∙ (sym eg ∙ tg) in
-      valued_found form s at from o value n next read (sym ef ∙ tf) c (plain (between s from n) c)
-      (subst (λ (k : ℕ). Walked (is (44 ∷ []) ∷ []) s k next) ea w) (λ h. r h ∙ ap value its-part)
+    (long : quoted_by form (first_token s from) ≡ true → length (inside (first_token s from)) ≡ n) where
+  pub part_unframed : framed s from n ≡ false → Missing (value_tests form) s at
+  part_unframed f = valued_lost form s at from o n long (rw f)
 
-  pub part_unframed : (f : Bool) (read : A) → f ≡ framed s from n → f ≡ false → length s ≤ object_most → Valued form value s at 8193 read
-  part_unframed f read ef tf h = valued_lost form s at from o value n read long (rw (sym ef ∙ tf)) h
+  module _ (part : List ℕ) (its-part : part ≡ between s from n) where
+    pub part_other : form part ≡ false → Missing (value_tests form) s at
+    part_other g =
+        let c : form (between s from n) ≡ false = ap form (sym its-part) ∙ g in
+        valued_lost form s at from o n long (rw c (and_none (framed s from n)))
 
-  pub part_other : (g : Bool) (read : A) → g ≡ form part → g ≡ false → length s ≤ object_most → Valued form value s at 8193 read
-  part_other g read eg tg h =
-      let c : form (between s from n) ≡ false = ap form (sym its-part) ∙ (sym eg ∙ tg) in
-      valued_lost form s at from o value n read long (rw c (and_none (framed s from n))) h
+    module _ (f : framed s from n ≡ true) (g : form part ≡ true) (after : ℕ) (ea : after ≡ from + n + 2) where
+      good : form (between s from n) ≡ true
+      good = ap form (sym its-part) ∙ g
+
+      pub part_unended : Missing (is (44 ∷ []) ∷ []) s after → Missing (value_tests form) s at
+      part_unended m = comma_lost form s at from o n f good (plain (between s from n) good) (rw ea at m)
+
+      pub part_found : {A : Type 0} (value : List ℕ → A) (next : ℕ) (read : A) → Walked (is (44 ∷ []) ∷ []) s after next
+          → read ≡ value part → Valued form value s at next read
+      part_found value next read w r =
+          valued_found form s at from o n f good (plain (between s from n) good) value next read
+          (subst (λ (k : ℕ). Walked (is (44 ∷ []) ∷ []) s k next) ea w) (r ∙ ap value its-part)
 
 -- a part from the byte after a place on, as the reader cuts it
 pub part_cut : (s : List ℕ) (from n end : ℕ) → end ≡ from + n + 1 → take (end - (from + 1)) (drop (from + 1) s) ≡ between s from n

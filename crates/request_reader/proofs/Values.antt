@@ -11,14 +11,14 @@ use lib.ListN.{length, get_or, take, drop, length-append, take-append-drop}
 use lib.Seq.{drop-cons, drop-drop, get_or-drop, take_at, get_or-append_seam}
 use borrow.Author.Tests.{ltb-true, ltb-false, lt-ltb, le-ltb, eqb-true, not-true}
 use Rattle.lists.specs.Searches.{every, same}
+use Rattle.std.specs.Prelude.{Option, Some, None}
 use Rattle.lists.proofs.Tests.{by_test, true_false, and_left, and_right, and_true}
 use Rattle.lists.proofs.Searches.{same_refl}
 use Rattle.request.specs.Tokens.{quote, quoted, inside, tokens, is, quoted_by}
-use Rattle.request.specs.Writing.{object_most}
 use Rattle.request.proofs.Fits.{inside_quoted, quoted_back}
-use Rattle.request_reader.specs.Walking.{Past, Walked, Opened, Valued, first_token, is_plain, framed, between}
+use Rattle.request_reader.specs.Walking.{Past, Walked, Missing, Opened, OpenSays, Valued, value_tests, first_token, is_plain, framed, between}
 use Rattle.request_reader.proofs.Fronts.{tokens_quoted}
-use Rattle.request_reader.proofs.Walks.{stands_split, stands_inside, walked_found, walked_lost, token_stands, walked_on, nowhere, walked_nowhere}
+use Rattle.request_reader.proofs.Walks.{stands_split, stands_inside, walked_found, walked_lost, token_stands, walked_on, missing_on, missing_first, token_after}
 
 -- ---- between quotes
 
@@ -112,8 +112,8 @@ module _ (form : List ℕ → Bool) (s : List ℕ) (at from : ℕ) (p : Past s a
       )
 
   pub value_lost : (n : ℕ) → (quoted_by form (first_token s from) ≡ true → length (inside (first_token s from)) ≡ n)
-      → (framed s from n && form (between s from n)) ≡ false → length s ≤ object_most → Walked (quoted_by form ∷ []) s at 8193
-  value_lost n k e h =
+      → (framed s from n && form (between s from n)) ≡ false → Missing (quoted_by form ∷ []) s at
+  value_lost n k e =
       walked_lost (quoted_by form) (by_none form) s at from p
       (by_test (quoted_by form (first_token s from))
       (λ f. let v = value_framed f in
@@ -121,48 +121,49 @@ module _ (form : List ℕ → Bool) (s : List ℕ) (at from : ℕ) (p : Past s a
       let x = rw m at v.0 in
       let y = rw m at v.1 in
       true_false (framed s from n && form (between s from n)) (and_true (framed s from n) (form (between s from n)) x (ap form y ∙ v.2)) e)
-      (λ f. f)) h
+      (λ f. f))
 
 -- ---- a value after other tokens
 
--- the token after those that were passed is the value's
-pub value_token : (ps : List (List ℕ → Bool)) (s : List ℕ) (at from : ℕ) → Opened ps s at from → (t : List ℕ) (ts : List (List ℕ))
-    → tokens (drop from s) ≡ t ∷ ts → get_or (tokens (drop at s)) (length ps) [] ≡ t
-value_token ps s at from o t ts e =
-    by_test (ltb (length s) o.mid)
-    (λ k. absurd (no_token (sym (o.past.same_tokens ∙ nowhere s o.mid (ltb-true (length s) o.mid k)) ∙ e)))
-    (λ k. let f = (o.walked.found (ltb-false (length s) o.mid k)).1 in
-    sym (rw (add-zero (length ps)) at (get_or-drop (length ps) (tokens (drop at s)) 0 []))
-    ∙ ap (λ (x : List (List ℕ)). get_or x 0 []) (sym f ∙ (sym o.past.same_tokens ∙ e)))
-  where
-    no_token : ◌≡◌ {A = List (List ℕ)} [] (t ∷ ts) → ⊥
-    no_token q = omega (arith, ap length q)
+-- the token after those that were passed is the first one from the value's place on
+pub opened_token : (ps : List (List ℕ → Bool)) (s : List ℕ) (at from : ℕ) → Opened ps s at from
+    → get_or (tokens (drop at s)) (length ps) [] ≡ first_token s from
+opened_token ps s at from o =
+    sym (ap (λ (ts : List (List ℕ)). get_or ts 0 []) o.past.same_tokens
+    ∙ (token_after ps [] s at o.mid o.walked 0 ∙ ap (λ (i : ℕ). get_or (tokens (drop at s)) i []) (add-zero (length ps))))
+
+-- a value's place after more tokens
+pub opened_on : (ps qs : List (List ℕ → Bool)) (s : List ℕ) (at mid : ℕ) → Walked ps s at mid → (r : Option ℕ) → OpenSays qs s mid r
+    → OpenSays (ps ++ qs) s at r
+opened_on ps qs s at mid w None m = missing_on ps qs s at mid w m
+opened_on ps qs s at mid w (Some from) o = record { mid = o.mid; walked = walked_on ps qs s at mid w o.mid o.walked; past = o.past; within = o.within }
 
 -- ---- a member from after its name on
 
-module _ (form : List ℕ → Bool) (s : List ℕ) (at from : ℕ) (o : Opened (is (58 ∷ []) ∷ []) s at from) where
-  valued_walked : (mid next : ℕ) → Walked (quoted_by form ∷ []) s o.mid mid → Walked (is (44 ∷ []) ∷ []) s mid next
-      → Walked (is (58 ∷ []) ∷ quoted_by form ∷ is (44 ∷ []) ∷ []) s at next
-  valued_walked mid next v w =
-      walked_on (is (58 ∷ []) ∷ quoted_by form ∷ []) (is (44 ∷ [])) [] s at mid next
-      (walked_on (is (58 ∷ []) ∷ []) (quoted_by form) [] s at o.mid mid o.walked v) w
+module _ (form : List ℕ → Bool) (s : List ℕ) (at from : ℕ) (o : Opened (is (58 ∷ []) ∷ []) s at from) (n : ℕ) where
+  pub valued_lost : (quoted_by form (first_token s from) ≡ true → length (inside (first_token s from)) ≡ n)
+      → (framed s from n && form (between s from n)) ≡ false → Missing (value_tests form) s at
+  valued_lost k e =
+      missing_on (is (58 ∷ []) ∷ []) (quoted_by form ∷ is (44 ∷ []) ∷ []) s at o.mid o.walked
+      (missing_first (quoted_by form ∷ []) (is (44 ∷ []) ∷ []) s o.mid (value_lost form s o.mid from o.past n k e))
 
-  module _ {A : Type 0} (value : List ℕ → A) (n : ℕ) where
-    pub valued_found : (next : ℕ) (read : A) → framed s from n ≡ true → form (between s from n) ≡ true → every is_plain (between s from n) ≡ true
-        → Walked (is (44 ∷ []) ∷ []) s (from + n + 2) next → (next ≤ length s → read ≡ value (between s from n)) → Valued form value s at next read
-    valued_found next read e g f w r =
-        let k = value_tokens form s o.mid from o.past n e f in
-        record {
-          walked = valued_walked (from + n + 2) next (value_found form s o.mid from o.past n e g f) w;
-          its_value = λ i.
-              r i
-              ∙ ap value (sym (ap inside (value_token (is (58 ∷ []) ∷ []) s at from o (quoted (between s from n)) (tokens (drop (from + n + 2) s)) k) ∙ inside_quoted (between s from n)));
-        }
+  module _ (e : framed s from n ≡ true) (g : form (between s from n) ≡ true) (f : every is_plain (between s from n) ≡ true) where
+    passed_value : Walked (is (58 ∷ []) ∷ quoted_by form ∷ []) s at (from + n + 2)
+    passed_value =
+        walked_on (is (58 ∷ []) ∷ []) (quoted_by form ∷ []) s at o.mid o.walked (from + n + 2) (value_found form s o.mid from o.past n e g f)
 
-    pub valued_lost : (read : A) → (quoted_by form (first_token s from) ≡ true → length (inside (first_token s from)) ≡ n)
-        → (framed s from n && form (between s from n)) ≡ false → length s ≤ object_most → Valued form value s at 8193 read
-    valued_lost read k e h =
+    pub comma_lost : Missing (is (44 ∷ []) ∷ []) s (from + n + 2) → Missing (value_tests form) s at
+    comma_lost m = missing_on (is (58 ∷ []) ∷ quoted_by form ∷ []) (is (44 ∷ []) ∷ []) s at (from + n + 2) passed_value m
+
+    pub valued_found : {A : Type 0} (value : List ℕ → A) (next : ℕ) (read : A) → Walked (is (44 ∷ []) ∷ []) s (from + n + 2) next
+        → read ≡ value (between s from n) → Valued form value s at next read
+    valued_found value next read w r =
         record {
-          walked = valued_walked 8193 8193 (value_lost form s o.mid from o.past n k e h) (walked_nowhere (is (44 ∷ [])) [] s 8193 8193 (omega arith) (omega arith));
-          its_value = λ i. absurd (omega arith);
+          walked = walked_on (is (58 ∷ []) ∷ quoted_by form ∷ []) (is (44 ∷ []) ∷ []) s at (from + n + 2) passed_value next w;
+          its_value = r ∙ ap value (sym (ap inside its_token ∙ inside_quoted (between s from n)));
         }
+      where
+        its_token : get_or (tokens (drop at s)) 1 [] ≡ quoted (between s from n)
+        its_token =
+            opened_token (is (58 ∷ []) ∷ []) s at from o
+            ∙ ap (λ (ts : List (List ℕ)). get_or ts 0 []) (value_tokens form s o.mid from o.past n e f)

@@ -17,21 +17,10 @@ use Rattle.notification.specs.Forms.{is_digit}
 use Rattle.reader.specs.Walking.{starts_with}
 use Rattle.reader.proofs.Starts.{starts_true, starts_long}
 use Rattle.request.specs.Tokens.{is_blank, quote, quoted, inside, tokens_from, tokens, is}
-use Rattle.request.specs.Writing.{object_most}
 use Rattle.request.proofs.Fits.{inside_quoted}
-use Rattle.request_reader.specs.Walking.{starts, Past, Walked, first_token, is_mark, is_plain, is_quoted}
+use Rattle.std.specs.Prelude.{Option, Some, None}
+use Rattle.request_reader.specs.Walking.{starts, Past, Walked, WalkSays, Missing, first_token, is_mark, is_plain, is_quoted}
 use Rattle.request_reader.proofs.Fronts.{tokens_blank, tokens_mark, tokens_quoted, first_stands}
-
--- ---- blanks
-
-pub blank_past : (s : List ℕ) (i : ℕ) → i < length s → is_blank (get_or s i 0) ≡ true → tokens (drop (i + 1) s) ≡ tokens (drop i s)
-blank_past s i h e = rw (drop-cons s i 0 h, add-one i) (sym (tokens_blank (get_or s i 0) (drop (suc i) s) e))
-
-pub past_here : (s : List ℕ) (at i : ℕ) → at ≤ i → is_blank (get_or s i 0) ≡ false → tokens (drop i s) ≡ tokens (drop at s) → Past s at i
-past_here s at i o e t = record { on = o; no_blank = e; same_tokens = t }
-
-pub past_end : (s : List ℕ) (at i : ℕ) → at ≤ i → length s ≤ i → tokens (drop i s) ≡ tokens (drop at s) → Past s at i
-past_end s at i o h t = record { on = o; no_blank = rw (get_or-eq_default s 0 h); same_tokens = t }
 
 -- ---- a text at a place
 
@@ -66,17 +55,10 @@ module _ (p : List ℕ → Bool) (none : p [] ≡ false) (s : List ℕ) (at from
       → Walked (p ∷ []) s at next
   walked_found t next e f h =
       let g = sym b.same_tokens ∙ e in
-      record {
-        found = λ i. rw g (starts_one p (t ∷ tokens (drop next s)) none ∙ f, refl);
-        lost = λ i. absurd (omega arith);
-      }
+      record { within = h; passes = rw g (starts_one p (t ∷ tokens (drop next s)) none ∙ f); leaves = rw g }
 
-  pub walked_lost : p (first_token s from) ≡ false → length s ≤ object_most → Walked (p ∷ []) s at 8193
-  walked_lost f h =
-      record {
-        found = λ i. absurd (omega arith);
-        lost = λ i. starts_one p (tokens (drop at s)) none ∙ rw (← b.same_tokens) f;
-      }
+  pub walked_lost : p (first_token s from) ≡ false → Missing (p ∷ []) s at
+  walked_lost f = starts_one p (tokens (drop at s)) none ∙ rw (← b.same_tokens) f
 
   -- where the token would be, its text stands
   pub token_stands : starts_with (first_token s from) (drop from s) ≡ true
@@ -122,14 +104,14 @@ module _ (s : List ℕ) (at from b : ℕ) (p : Past s at from) (m : is_mark b �
       walked_found (is (b ∷ [])) (is_none b []) s at from p (b ∷ []) (from + 1)
       (rw (drop-cons s from 0 h, e, add-one from) (tokens_mark b (drop (suc from) s) m)) (same_refl (b ∷ [])) (omega arith)
 
-  pub mark_lost : (get_or s from 0 ≡ b → ⊥) → length s ≤ object_most → Walked (is (b ∷ []) ∷ []) s at 8193
-  mark_lost f h =
+  pub mark_lost : (get_or s from 0 ≡ b → ⊥) → Missing (is (b ∷ []) ∷ []) s at
+  mark_lost f =
       walked_lost (is (b ∷ [])) (is_none b []) s at from p
       (by_test (is (b ∷ []) (first_token s from))
       (λ e. let t = same_true (first_token s from) (b ∷ []) e in
       let g = rw t at (token_stands (is (b ∷ [])) (is_none b []) s at from p) in
       absurd (f (byte_first g)))
-      (λ e. e)) h
+      (λ e. e))
     where
       byte_first : starts_with (b ∷ []) (drop from s) ≡ true → get_or s from 0 ≡ b
       byte_first g =
@@ -173,13 +155,13 @@ module _ (s : List ℕ) (at from : ℕ) (t : List ℕ) (p : Past s at from) (q :
       walked_found (is t) (text_none t q) s at from p t (from + length t) (ap tokens w ∙ quoted_first t (drop (from + length t) s) q) (same_refl t)
       (stands_inside s t from (text_long t q) e)
 
-  pub text_lost : starts_with t (drop from s) ≡ false → length s ≤ object_most → Walked (is t ∷ []) s at 8193
-  text_lost e h =
+  pub text_lost : starts_with t (drop from s) ≡ false → Missing (is t ∷ []) s at
+  text_lost e =
       walked_lost (is t) (text_none t q) s at from p
       (by_test (is t (first_token s from))
       (λ f. let g = rw (same_true (first_token s from) t f) at (token_stands (is t) (text_none t q) s at from p) in
       true_false (starts_with t (drop from s)) g e)
-      (λ f. f)) h
+      (λ f. f))
 
 -- ---- one walk after another
 
@@ -194,65 +176,35 @@ starts_append (p ∷ ps) [] [] = refl
 starts_append (p ∷ ps) (q ∷ qs) [] = refl
 starts_append (p ∷ ps) qs (t ∷ ts) = ap (λ (b : Bool). p t && b) (starts_append ps qs ts) ∙ sym (and_assoc (p t) (starts ps ts) (starts qs (drop (length ps) ts)))
 
--- past the end there is no token
-pub nowhere : (s : List ℕ) (at : ℕ) → length s < at → tokens (drop at s) ≡ []
-unfolding tokens_from
-nowhere s at h = let e : length s ≤ at = omega arith in rw (drop_of_length-le s e)
+module _ (ps qs : List (List ℕ → Bool)) (s : List ℕ) (at : ℕ) where
+  -- where the first tests fail, so do they and more
+  pub missing_first : Missing ps s at → Missing (ps ++ qs) s at
+  missing_first e = starts_append ps qs (tokens (drop at s)) ∙ rw e
 
-pub walked_on : (ps : List (List ℕ → Bool)) (q : List ℕ → Bool) (qs : List (List ℕ → Bool)) (s : List ℕ) (at mid next : ℕ)
-    → Walked ps s at mid → Walked (q ∷ qs) s mid next → Walked (ps ++ q ∷ qs) s at next
-unfolding starts
-walked_on ps q qs s at mid next v w =
-    let ts = tokens (drop at s) in
-    let split = starts_append ps (q ∷ qs) ts in
-    by_test (ltb (length s) mid)
-    (λ t. let h = ltb-true (length s) mid t in
-    let z = nowhere s mid h in
-    let n : starts (q ∷ qs) (tokens (drop mid s)) ≡ false = rw z in
-    record {
-      found = λ i. true_false (starts (q ∷ qs) (tokens (drop mid s))) (w.found i).0 n;
-      lost = λ i. split ∙ rw (v.lost h);
-    })
-    (λ t. let h = ltb-false (length s) mid t in
-    let f = v.found h in
-    record {
-      found = λ i. (split ∙ rw (f.0, ← f.1) (w.found i).0, (w.found i).1 ∙ (ap (drop (length (q ∷ qs))) f.1 ∙ (drop-drop (length (q ∷ qs)) (length ps) ts ∙ ap (λ (n : ℕ). drop n ts) (sym (length-append ps (q ∷ qs))))));
-      lost = λ i. split ∙ rw (f.0, ← f.1) (w.lost i);
-    })
+  module _ (mid : ℕ) (v : Walked ps s at mid) where
+    pub walked_on : (next : ℕ) → Walked qs s mid next → Walked (ps ++ qs) s at next
+    walked_on next w =
+        let ts = tokens (drop at s) in
+        record {
+          within = w.within;
+          passes = starts_append ps qs ts ∙ rw (v.passes, ← v.leaves) w.passes;
+          leaves = w.leaves ∙ (ap (drop (length qs)) v.leaves ∙ (drop-drop (length qs) (length ps) ts ∙ ap (λ (n : ℕ). drop n ts) (sym (length-append ps qs))));
+        }
 
--- a walk from past the end goes on past it
-pub walked_nowhere : (q : List ℕ → Bool) (qs : List (List ℕ → Bool)) (s : List ℕ) (at next : ℕ) → length s < at → length s < next
-    → Walked (q ∷ qs) s at next
-unfolding starts
-walked_nowhere q qs s at next h g =
-    record {
-      found = λ i. absurd (omega arith);
-      lost = λ i. rw (nowhere s at h);
-    }
+    pub missing_on : Missing qs s mid → Missing (ps ++ qs) s at
+    missing_on e = starts_append ps qs (tokens (drop at s)) ∙ rw (v.passes, ← v.leaves) e
 
--- where a token doesn't pass its test, nothing after it is looked at
-pub walked_astray : (q : List ℕ → Bool) (qs : List (List ℕ → Bool)) (s : List ℕ) (at : ℕ) → length s ≤ object_most → Walked (q ∷ []) s at 8193
-    → Walked (q ∷ qs) s at 8193
-walked_astray q [] s at h w = w
-walked_astray q (r ∷ rs) s at h w = walked_on (q ∷ []) r rs s at 8193 8193 w (walked_nowhere r rs s 8193 8193 (omega arith) (omega arith))
+    -- a token after those that were passed
+    pub token_after : (i : ℕ) → get_or (tokens (drop mid s)) i [] ≡ get_or (tokens (drop at s)) (length ps + i) []
+    token_after i = ap (λ (ts : List (List ℕ)). get_or ts i []) v.leaves ∙ get_or-drop (length ps) (tokens (drop at s)) i []
 
--- ---- one token after others
+-- where tests in the midst of others fail
+pub missing_amid : (ps qs rs : List (List ℕ → Bool)) (s : List ℕ) (at mid : ℕ) → Walked ps s at mid → Missing qs s mid
+    → Missing (ps ++ (qs ++ rs)) s at
+missing_amid ps qs rs s at mid w m = missing_on ps (qs ++ rs) s at mid w (missing_first qs rs s mid m)
 
-module _ (ps : List (List ℕ → Bool)) (s : List ℕ) (at mid from : ℕ) (v : Walked ps s at mid) (p : Past s mid from) where
-  pub mark_next : (b : ℕ) → is_mark b ≡ true → get_or s from 0 ≡ b → Walked (ps ++ is (b ∷ []) ∷ []) s at (from + 1) × (from + 1 ≤ length s)
-  mark_next b m e =
-      let i = mark_inside s mid from b p m e in
-      (walked_on ps (is (b ∷ [])) [] s at mid (from + 1) v (mark_found s mid from b p m e), omega arith)
-
-  pub text_next : (t : List ℕ) → is_quoted t ≡ true → starts_with t (drop from s) ≡ true
-      → Walked (ps ++ is t ∷ []) s at (from + length t) × (from + length t ≤ length s)
-  text_next t q e =
-      (walked_on ps (is t) [] s at mid (from + length t) v (text_found s mid from t p q e), stands_inside s t from (text_long t q) e)
-
-  pub mark_missing : (b : ℕ) (qs : List (List ℕ → Bool)) → is_mark b ≡ true → (get_or s from 0 ≡ b → ⊥) → length s ≤ object_most
-      → Walked (ps ++ is (b ∷ []) ∷ qs) s at 8193
-  mark_missing b qs m f h = walked_on ps (is (b ∷ [])) qs s at mid 8193 v (walked_astray (is (b ∷ [])) qs s mid h (mark_lost s mid from b p m f h))
-
-  pub text_missing : (t : List ℕ) (qs : List (List ℕ → Bool)) → is_quoted t ≡ true → starts_with t (drop from s) ≡ false → length s ≤ object_most
-      → Walked (ps ++ is t ∷ qs) s at 8193
-  text_missing t qs q e h = walked_on ps (is t) qs s at mid 8193 v (walked_astray (is t) qs s mid h (text_lost s mid from t p q e h))
+-- what is said after more tokens
+pub says_on : (ps qs : List (List ℕ → Bool)) (s : List ℕ) (at mid : ℕ) → Walked ps s at mid → (r : Option ℕ) → WalkSays qs s mid r
+    → WalkSays (ps ++ qs) s at r
+says_on ps qs s at mid w None m = missing_on ps qs s at mid w m
+says_on ps qs s at mid w (Some next) v = walked_on ps qs s at mid w next v

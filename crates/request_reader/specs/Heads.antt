@@ -7,6 +7,7 @@ use Rattle.request.specs.Objects.{ceder_name, acquirer_name, origin_name, catego
 use Rattle.request.specs.Reading.{text_at}
 use Rattle.request.specs.declared.Moment.{Moment}
 use Rattle.request_reader.specs.Walking.{Walked, member_tests, part}
+use Rattle.request_reader.specs.declared.head.Parties.{Parties}
 use Rattle.request_reader.specs.declared.head.Terms.{Terms}
 
 -- a moment's text whose time is at most a second of the day
@@ -35,17 +36,17 @@ begin_tests =
 abbrev pub head_tests : List (List ℕ → Bool)
 head_tests = party_tests ++ (term_tests ++ begin_tests)
 
-pub record PartiesAt (s : List ℕ) (next : ℕ) (ceder acquirer origin : List ℕ) : Type 0 where
-  pub walked : Walked party_tests s 0 next
-  pub its_ceder : next ≤ length s → ceder ≡ text_at 3 (tokens s)
-  pub its_acquirer : next ≤ length s → acquirer ≡ text_at 7 (tokens s)
-  pub its_origin : next ≤ length s → origin ≡ text_at 11 (tokens s)
+pub record PartiesAt (s : List ℕ) (p : Parties) : Type 0 where
+  pub walked : Walked party_tests s 0 p.at
+  pub its_ceder : p.ceder ≡ text_at 3 (tokens s)
+  pub its_acquirer : p.acquirer ≡ text_at 7 (tokens s)
+  pub its_origin : p.origin ≡ text_at 11 (tokens s)
 
-pub record TermsAt (s : List ℕ) (at next : ℕ) (category : List ℕ) (day submitted : Moment) : Type 0 where
-  pub walked : Walked term_tests s at next
-  pub its_category : next ≤ length s → category ≡ six_bytes (text_at 2 (tokens (drop at s)))
-  pub its_day : next ≤ length s → day ≡ moment_in (text_at 6 (tokens (drop at s)))
-  pub its_moment : next ≤ length s → submitted ≡ moment_in (text_at 10 (tokens (drop at s)))
+pub record TermsAt (s : List ℕ) (at : ℕ) (t : Terms) : Type 0 where
+  pub walked : Walked term_tests s at t.at
+  pub its_category : t.category ≡ six_bytes (text_at 2 (tokens (drop at s)))
+  pub its_day : t.day ≡ moment_in (text_at 6 (tokens (drop at s)))
+  pub its_moment : t.submitted ≡ moment_in (text_at 10 (tokens (drop at s)))
 
 -- WITHOUT BLANKS
 

@@ -7,7 +7,7 @@ use Rattle.request.specs.Tokens.{tokens, fits, is}
 use Rattle.request.specs.Objects.{Step, further, parted, step_of}
 use Rattle.request.specs.Reading.{step_test, steps_in, step_tokens}
 use Rattle.request_reader.specs.Walking.{Walked, part}
-use Rattle.request_reader.specs.Steps.{front_tests, step_in, said_at, FrontAt}
+use Rattle.request_reader.specs.Steps.{front_tests, step_in, said_at, FrontAt, LabelEntry}
 
 -- `]` and `}`
 abbrev pub closing : List (List ℕ → Bool)
@@ -69,12 +69,12 @@ pub record Onward (steps : ℕ) (s : List ℕ) (at : ℕ) (x : Taken) (next : �
 -- the next step stands at a place, and what is kept after its power
 pub record NextStep (steps : ℕ) (s : List ℕ) (at next : ℕ) (x y : Taken) : Type 0 where
   pub walked : Walked front_tests s at next
-  pub its_tally : next ≤ length s → y ≡ step_taken first_step steps x (said_at steps x.tally.lines (step_in (tokens (drop at s))))
+  pub its_tally : y ≡ step_taken first_step steps x (said_at steps x.tally.lines (step_in (tokens (drop at s))))
 
 -- the steps and what closes the object stand from a place on, and what is kept after them
-pub record SeriesAt (steps : ℕ) (s : List ℕ) (at : ℕ) (x : Taken) (good : Bool) (y : Taken) : Type 0 where
-  pub its_form : good ≡ is_series (tokens (drop at s))
-  pub its_steps : good ≡ true → y ≡ tell_all steps x (steps_in (count_of (tokens (drop at s))) (tokens (drop at s)))
+pub record SeriesAt (steps : ℕ) (s : List ℕ) (at : ℕ) (x y : Taken) : Type 0 where
+  pub its_form : is_series (tokens (drop at s)) ≡ true
+  pub its_steps : y ≡ tell_all steps x (steps_in (count_of (tokens (drop at s))) (tokens (drop at s)))
 
 -- A STEP AT ONCE
 
@@ -87,3 +87,9 @@ PlainSays lead from until s at Not = Unit {0}
 abbrev pub LaidSays : List ℕ → List ℕ → List ℕ → ℕ → Power → Type 0
 LaidSays from until s at (Is v n) = FrontAt between_steps from until s at (at + n) v
 LaidSays from until s at Not = Unit {0}
+
+-- what a front has to say of each place and each two labels of a list that it is asked of
+abbrev pub Fronts : (ℕ → ℕ → Type 0) → (ℕ → ℕ → Power → Type 0) → List ℕ → List ℕ → Type 0
+Fronts pre post t s =
+    (at i : ℕ) → at ≤ length s → LabelEntry t i → LabelEntry t (i + 10)
+    → pre at i × ((r : Power) → post at i r → LaidSays (part (i + 4) 5 t) (part (i + 14) 5 t) s at r)

@@ -22,7 +22,7 @@ label_tests name = is name ∷ is (58 ∷ []) ∷ quoted_by (every is_label_byte
 -- it stands at a place, and whether its label is the one wanted
 pub record LabelAt (name wanted s : List ℕ) (at next : ℕ) (right : Bool) : Type 0 where
   pub walked : Walked (label_tests name) s at next
-  pub its_label : next ≤ length s → right ≡ same (get_or (tokens (drop at s)) 2 []) (quoted wanted)
+  pub its_label : right ≡ same (get_or (tokens (drop at s)) 2 []) (quoted wanted)
 
 -- the power in the digits of a token, as they stand in a file, where `;` ends them
 unfoldable pub power_of : List ℕ → Power
@@ -36,7 +36,7 @@ power_tests name = is name ∷ is (58 ∷ []) ∷ is_run ∷ []
 -- a power's member stands at a place, and what its digits give
 pub record PowerAt (name s : List ℕ) (at next : ℕ) (power : Power) : Type 0 where
   pub walked : Walked (power_tests name) s at next
-  pub its_power : next ≤ length s → power ≡ power_of (get_or (tokens (drop at s)) 2 [])
+  pub its_power : power ≡ power_of (get_or (tokens (drop at s)) 2 [])
 
 -- the tokens of a step up to its power
 abbrev pub front_tests : List (List ℕ → Bool)
@@ -67,7 +67,7 @@ said_at steps k s = said_by (hour_label steps k) (hour_label steps (suc k)) s
 -- a step stands at a place, and the next place is after its power
 pub record StepAt (from until s : List ℕ) (at next : ℕ) (said : LinePower) : Type 0 where
   pub walked : Walked front_tests s at next
-  pub its_said : next ≤ length s → said ≡ said_by from until (step_in (tokens (drop at s)))
+  pub its_said : said ≡ said_by from until (step_in (tokens (drop at s)))
 
 -- HOW A STEP IS LAID OUT
 

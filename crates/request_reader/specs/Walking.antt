@@ -1,10 +1,10 @@
 -- How the reader goes through an object: token by token, by the tests that the tokens have to pass.
 use Rattle.std.specs.Prelude.{◌≡◌, Bool, true, false, cond, not, ◌&&◌, ◌||◌, List, [], ◌∷◌, ◌++◌, ℕ, ◌+◌, ◌-◌, ◌*◌, ◌<◌, ◌≤◌, ltb, eqb, length, get_or, take, drop}
+use Rattle.std.specs.Prelude.{Option, Some, None, MatchOption}
 use Rattle.lists.specs.Searches.{every, same}
 use Rattle.notification.specs.Forms.{is_digit}
 use Rattle.request.specs.Tokens.{is_blank, quote, quoted, inside, tokens, is, quoted_by}
 use Rattle.calendar.specs.Texts.{pair_of}
-use Rattle.request.specs.Moments.{day_seconds}
 
 -- the first tokens pass the tests, one each
 unfoldable pub starts : List (List ℕ → Bool) → List (List ℕ) → Bool
@@ -18,11 +18,19 @@ pub record Past (s : List ℕ) (at from : ℕ) : Type 0 where
   pub no_blank : is_blank (get_or s from 0) ≡ false
   pub same_tokens : tokens (drop from s) ≡ tokens (drop at s)
 
--- from a place on stand tokens that pass the tests, and the next place is after them; or none such stand there, and the next place is past
--- the end
+-- from a place on stand tokens that pass the tests, and the next place is after them
 pub record Walked (ps : List (List ℕ → Bool)) (s : List ℕ) (at next : ℕ) : Type 0 where
-  pub found : next ≤ length s → (starts ps (tokens (drop at s)) ≡ true) × (tokens (drop next s) ≡ drop (length ps) (tokens (drop at s)))
-  pub lost : length s < next → starts ps (tokens (drop at s)) ≡ false
+  pub within : next ≤ length s
+  pub passes : starts ps (tokens (drop at s)) ≡ true
+  pub leaves : tokens (drop next s) ≡ drop (length ps) (tokens (drop at s))
+
+-- none such stand there
+abbrev pub Missing : List (List ℕ → Bool) → List ℕ → ℕ → Type 0
+Missing ps s at = starts ps (tokens (drop at s)) ≡ false
+
+-- what is said of a place where they are looked for: the place after them
+abbrev pub WalkSays : List (List ℕ → Bool) → List ℕ → ℕ → Option ℕ → Type 0
+WalkSays ps s at next = MatchOption next (Missing ps s at) (Walked ps s at)
 
 -- so many bytes of a text from a place on
 abbrev pub part : ℕ → ℕ → List ℕ → List ℕ
@@ -63,6 +71,11 @@ pub record Opened (ps : List (List ℕ → Bool)) (s : List ℕ) (at from : ℕ)
   pub mid : ℕ
   pub walked : Walked ps s at mid
   pub past : Past s mid from
+  pub within : from ≤ length s
+
+-- what is said of a place where they are looked for
+abbrev pub OpenSays : List (List ℕ → Bool) → List ℕ → ℕ → Option ℕ → Type 0
+OpenSays ps s at from = MatchOption from (Missing ps s at) (Opened ps s at)
 
 -- so many bytes stand between quotes at a place
 unfoldable pub framed : List ℕ → ℕ → ℕ → Bool
@@ -72,10 +85,14 @@ framed s from n = not (ltb (length s) (from + n + 2)) && (eqb (get_or s from 0) 
 abbrev pub between : List ℕ → ℕ → ℕ → List ℕ
 between s from n = take n (drop (from + 1) s)
 
--- a member from after its name on: a quoted value of a form, with the colon before it and the comma after it, and what was read is by it
+-- a member from after its name on: a quoted value of a form, with the colon before it and the comma after it
+abbrev pub value_tests : (List ℕ → Bool) → List (List ℕ → Bool)
+value_tests form = is (58 ∷ []) ∷ quoted_by form ∷ is (44 ∷ []) ∷ []
+
+-- it stands at a place, and what was read is by it
 pub record Valued {A : Type 0} (form : List ℕ → Bool) (value : List ℕ → A) (s : List ℕ) (at next : ℕ) (read : A) : Type 0 where
-  pub walked : Walked (is (58 ∷ []) ∷ quoted_by form ∷ is (44 ∷ []) ∷ []) s at next
-  pub its_value : next ≤ length s → read ≡ value (inside (get_or (tokens (drop at s)) 1 []))
+  pub walked : Walked (value_tests form) s at next
+  pub its_value : read ≡ value (inside (get_or (tokens (drop at s)) 1 []))
 
 -- a member with the comma after it
 abbrev pub member_tests : List ℕ → (List ℕ → Bool) → List (List ℕ → Bool)
@@ -92,19 +109,19 @@ marks_stand s =
 abbrev pub date_digits : List ℕ → List ℕ
 date_digits s = take 4 s ++ (take 2 (drop 5 s) ++ take 2 (drop 8 s))
 
--- the second that the digits of the time give; as many as a day has where there is no such time
-unfoldable pub time_in : List ℕ → ℕ
+-- the second that the digits of the time give, where there is such a time
+unfoldable pub time_in : List ℕ → Option ℕ
 time_in s =
     let h = pair_of (get_or s 11 0) (get_or s 12 0) in
     let m = pair_of (get_or s 14 0) (get_or s 15 0) in
     let t = pair_of (get_or s 17 0) (get_or s 18 0) in
-    cond (ltb h 24 && ltb m 60 && ltb t 60) (3600 * h + 60 * m + t) day_seconds
+    cond (ltb h 24 && ltb m 60 && ltb t 60) (Some (3600 * h + 60 * m + t)) None
 
 -- A RUN OF BYTES
 
 -- from a place to another every byte passes a test, and the next one doesn't
 pub record RunTo (p : ℕ → Bool) (s : List ℕ) (from end : ℕ) : Type 0 where
   pub on : from ≤ end
-  pub within : from < end → end ≤ length s
+  pub within : end ≤ length s
   pub all : every p (take (end - from) (drop from s)) ≡ true
   pub stop : p (get_or s end 0) ≡ false

@@ -1,14 +1,13 @@
 // The members before the steps: an object's key, its origin and when it was submitted.
-ghost use Rattle.std.specs.Prelude.{◌≡◌, true, ◌≤◌, length};
-ghost use Rattle.request.specs.Writing.{object_most};
-ghost use Rattle.request_reader.specs.Heads.{PartiesAt, TermsAt, PlainParties, PlainDates, begin_tests};
-ghost use Rattle.request_reader.specs.Walking.{Walked};
+ghost use Rattle.std.specs.Prelude.{◌≡◌, true, ◌≤◌, length, MatchOption, IfSome};
+ghost use Rattle.request_reader.specs.Heads.{PartiesAt, TermsAt, PlainParties, PlainDates};
+ghost use Rattle.request_reader.specs.Heads.{party_tests, term_tests, begin_tests};
+ghost use Rattle.request_reader.specs.Walking.{Missing, WalkSays};
 
 use crate::members::{category_length, category_member, code_member, moment_member};
 use crate::moments::moment_of;
-use crate::tokens::{NOWHERE, past_blanks, stands};
+use crate::tokens::{after_mark, after_text, stands};
 use crate::words::{eight_at, same_text};
-use lists::bytes::byte_at;
 use notification::forms::{is_category, is_code, six, sixteen};
 use request::Moment;
 
@@ -60,196 +59,145 @@ fn is_plain(s: &[u8]) -> bool
     (s[126] == b'"') & (s[127] == b',')
 }
 
-// `{` and the members of the three codes.
-pub(crate) fn take_parties(s: &[u8]) -> Parties
-    requires { length s.now ≤ object_most }
-    ensures { PartiesAt s.now result.at result.ceder result.acquirer result.origin }
+// The three codes, where nothing stands between the tokens.
+fn plain_parties(s: &[u8]) -> Option<Parties>
+    ensures { IfSome result (λ p. PartiesAt s.now p) }
 {
-    if is_plain(s) {
-        let ceder = &s[24..40];
-        let acquirer = &s[68..84];
-        let origin = &s[110..126];
-        if is_code(ceder) & is_code(acquirer) & is_code(origin) {
-            return Parties {
-                ceder: sixteen(ceder),
-                acquirer: sixteen(acquirer),
-                origin: sixteen(origin),
-                at: 128,
-            };
-        }
+    if !is_plain(s) {
+        return None;
     }
-    let none = Parties {
-        ceder: [0; 16],
-        acquirer: [0; 16],
-        origin: [0; 16],
-        at: NOWHERE,
-    };
-    let open = past_blanks(s, 0);
-    if byte_at(s, open) != b'{' {
-        return none;
+    let ceder = &s[24..40];
+    let acquirer = &s[68..84];
+    let origin = &s[110..126];
+    if !(is_code(ceder) & is_code(acquirer) & is_code(origin)) {
+        return None;
     }
-    let cedant = past_blanks(s, open + 1);
-    if !stands(s, cedant, b"\"CodeEicActeurCedant\"") {
-        return none;
-    }
-    let first = code_member(s, cedant + 21);
-    let acquereur = past_blanks(s, first.at);
-    if !stands(s, acquereur, b"\"CodeEicActeurAcquereur\"") {
-        return none;
-    }
-    let second = code_member(s, acquereur + 24);
-    let origine = past_blanks(s, second.at);
-    if !stands(s, origine, b"\"CodeEicActeurOrigine\"") {
-        return none;
-    }
-    let third = code_member(s, origine + 22);
-    let ceder = first.code;
-    let acquirer = second.code;
-    let origin = third.code;
-    Parties {
+    Some(Parties {
+        ceder: sixteen(ceder),
+        acquirer: sixteen(acquirer),
+        origin: sixteen(origin),
+        at: 128,
+    })
+}
+
+// The three codes, whatever blanks stand between the tokens.
+fn spaced_parties(s: &[u8]) -> Option<Parties>
+    ensures { MatchOption result (Missing party_tests s.now 0) (λ p. PartiesAt s.now p) }
+{
+    let open = after_mark(s, 0, b'{')?;
+    let cedant = after_text(s, open, b"\"CodeEicActeurCedant\"")?;
+    let first = code_member(s, cedant)?;
+    let acquereur = after_text(s, first.next, b"\"CodeEicActeurAcquereur\"")?;
+    let second = code_member(s, acquereur)?;
+    let origine = after_text(s, second.next, b"\"CodeEicActeurOrigine\"")?;
+    let third = code_member(s, origine)?;
+    let ceder = first.value;
+    let acquirer = second.value;
+    let origin = third.value;
+    Some(Parties {
         ceder,
         acquirer,
         origin,
-        at: third.at,
-    }
+        at: third.next,
+    })
 }
 
-// No category and no dates.
-fn no_terms() -> Terms
-    ensures { result.at ≡ 8193 }
+// `{` and the members of the three codes.
+pub(crate) fn take_parties(s: &[u8]) -> Option<Parties>
+    ensures { MatchOption result (Missing party_tests s.now 0) (λ p. PartiesAt s.now p) }
 {
-    Terms {
-        category: [0; 6],
-        day: Moment { day: 0, second: 0 },
-        submitted: Moment { day: 0, second: 0 },
-        at: NOWHERE,
-    }
+    plain_parties(s).or_else(|| spaced_parties(s))
 }
 
 // The members of the two dates without blanks, from the quote after the category on.
-fn plain_dates(s: &[u8], from: usize, category: [u8; 6]) -> Terms
-    requires { (length s.now ≤ object_most) × (from ≤ length s.now) }
-    ensures { result.at ≤ length s.now → PlainDates s.now from category result }
+fn plain_dates(s: &[u8], from: usize, category: [u8; 6]) -> Option<Terms>
+    requires { from ≤ length s.now }
+    ensures { IfSome result (λ t. PlainDates s.now from category t) }
 {
-    if s.len() < from + 84 {
-        return no_terms();
+    if s.len() - from < 84 {
+        return None;
     }
     let t = &s[from..from + 84];
     if !(same_text(t, 0, b"\",\"DateExploitation\":\"")
         & same_text(t, 42, b"\",\"DateSoumission\":\"")
         & same_text(t, 82, b"\","))
     {
-        return no_terms();
+        return None;
     }
-    let first = moment_of(&t[22..42]);
-    let second = moment_of(&t[62..82]);
-    let day = first.moment;
-    let submitted = second.moment;
-    if !(first.good & second.good & (day.second == 0)) {
-        return no_terms();
+    let day = moment_of(&t[22..42])?;
+    let submitted = moment_of(&t[62..82])?;
+    if day.second != 0 {
+        return None;
     }
-    Terms {
+    Some(Terms {
         category,
         day,
         submitted,
         at: from + 84,
-    }
+    })
 }
 
 // The members of the category and of the two dates without blanks.
-fn plain_terms(s: &[u8], at: usize) -> Terms
-    requires { length s.now ≤ object_most }
-    ensures { result.at ≤ length s.now
-        → TermsAt s.now at result.at result.category result.day result.submitted }
+fn plain_terms(s: &[u8], at: usize) -> Option<Terms>
+    requires { at ≤ length s.now }
+    ensures { IfSome result (λ t. TermsAt s.now at t) }
 {
-    if s.len() < at {
-        return no_terms();
-    }
     if s.len() - at < 32 {
-        return no_terms();
+        return None;
     }
     if !same_text(s, at, b"\"NomCategorieEngagement\":\"") {
-        return no_terms();
+        return None;
     }
     let from = at + 26;
     let n = category_length(s, from - 1);
     let category = &s[from..from + n];
     if !is_category(category) {
-        return no_terms();
+        return None;
     }
     plain_dates(s, from + n, six(category))
 }
 
-// The members of the category and of the two dates.
-pub(crate) fn take_terms(s: &[u8], at: usize) -> Terms
-    requires { length s.now ≤ object_most }
-    ensures { TermsAt s.now at result.at result.category result.day result.submitted }
+// The members of the category and of the two dates, whatever blanks stand between the tokens.
+fn spaced_terms(s: &[u8], at: usize) -> Option<Terms>
+    requires { at ≤ length s.now }
+    ensures { MatchOption result (Missing term_tests s.now at) (λ t. TermsAt s.now at t) }
 {
-    let plain = plain_terms(s, at);
-    if plain.at <= s.len() {
-        return plain;
-    }
-    let categorie = past_blanks(s, at);
-    if !stands(s, categorie, b"\"NomCategorieEngagement\"") {
-        return no_terms();
-    }
-    let first = category_member(s, categorie + 24);
-    let exploitation = past_blanks(s, first.at);
-    if !stands(s, exploitation, b"\"DateExploitation\"") {
-        return no_terms();
-    }
-    let second = moment_member(s, exploitation + 18, 0);
-    let soumission = past_blanks(s, second.at);
-    if !stands(s, soumission, b"\"DateSoumission\"") {
-        return no_terms();
-    }
-    let third = moment_member(s, soumission + 16, LAST_SECOND);
-    let category = first.category;
-    let day = second.moment;
-    let submitted = third.moment;
-    Terms {
+    let categorie = after_text(s, at, b"\"NomCategorieEngagement\"")?;
+    let first = category_member(s, categorie)?;
+    let exploitation = after_text(s, first.next, b"\"DateExploitation\"")?;
+    let second = moment_member(s, exploitation, 0)?;
+    let soumission = after_text(s, second.next, b"\"DateSoumission\"")?;
+    let third = moment_member(s, soumission, LAST_SECOND)?;
+    let category = first.value;
+    Some(Terms {
         category,
-        day,
-        submitted,
-        at: third.at,
-    }
+        day: second.value,
+        submitted: third.value,
+        at: third.next,
+    })
+}
+
+// The members of the category and of the two dates.
+pub(crate) fn take_terms(s: &[u8], at: usize) -> Option<Terms>
+    requires { at ≤ length s.now }
+    ensures { MatchOption result (Missing term_tests s.now at) (λ t. TermsAt s.now at t) }
+{
+    plain_terms(s, at).or_else(|| spaced_terms(s, at))
 }
 
 // The status and the beginning of the steps: `"Statut" : "C", "Chronique" : [`.
-pub(crate) fn series_from(s: &[u8], at: usize) -> usize
-    requires { length s.now ≤ object_most }
-    ensures { Walked begin_tests s.now at result }
+pub(crate) fn series_from(s: &[u8], at: usize) -> Option<usize>
+    requires { at ≤ length s.now }
+    ensures { WalkSays begin_tests s.now at result }
 {
     if stands(s, at, b"\"Statut\":\"C\",\"Chronique\":[") {
-        return at + 26;
+        return Some(at + 26);
     }
-    let statut = past_blanks(s, at);
-    if !stands(s, statut, b"\"Statut\"") {
-        return NOWHERE;
-    }
-    let first_colon = past_blanks(s, statut + 8);
-    if byte_at(s, first_colon) != b':' {
-        return NOWHERE;
-    }
-    let created = past_blanks(s, first_colon + 1);
-    if !stands(s, created, b"\"C\"") {
-        return NOWHERE;
-    }
-    let comma = past_blanks(s, created + 3);
-    if byte_at(s, comma) != b',' {
-        return NOWHERE;
-    }
-    let chronique = past_blanks(s, comma + 1);
-    if !stands(s, chronique, b"\"Chronique\"") {
-        return NOWHERE;
-    }
-    let second_colon = past_blanks(s, chronique + 11);
-    if byte_at(s, second_colon) != b':' {
-        return NOWHERE;
-    }
-    let bracket = past_blanks(s, second_colon + 1);
-    if byte_at(s, bracket) != b'[' {
-        return NOWHERE;
-    }
-    bracket + 1
+    let statut = after_text(s, at, b"\"Statut\"")?;
+    let first_colon = after_mark(s, statut, b':')?;
+    let created = after_text(s, first_colon, b"\"C\"")?;
+    let comma = after_mark(s, created, b',')?;
+    let chronique = after_text(s, comma, b"\"Chronique\"")?;
+    let second_colon = after_mark(s, chronique, b':')?;
+    after_mark(s, second_colon, b'[')
 }

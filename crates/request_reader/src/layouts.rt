@@ -1,18 +1,15 @@
 // How a step is laid out: the places of its two labels and of its power, whatever blanks stand between its tokens.
-ghost use Rattle.std.specs.Prelude.{true, false, ◌≡◌, ◌+◌, ◌≤◌, length};
-ghost use Rattle.request.specs.Writing.{object_most};
+ghost use Rattle.std.specs.Prelude.{true, ◌≡◌, ◌+◌, ◌≤◌, length, IfSome};
 ghost use Rattle.request_reader.specs.Steps.{FiveAt, LaidOut, OwnSays, before_from};
 
-use crate::tokens::{past_blanks, stands};
+use crate::tokens::{after_mark, after_text, value_at};
 use crate::words::{four_at, run_power};
-use lists::bytes::byte_at;
 use reader::power::Power;
 
-// The places of a step's labels and of its power, and whether they were found: the labels have five bytes of which the
-// last is 0, and four bytes stand from the power on.
+// The places of a step's labels and of its power: the labels have five bytes of which the last is 0, and four bytes
+// stand from the power on.
 #[derive(Clone, Copy)]
 pub struct Layout {
-    pub regular: bool,
     pub first: usize,
     pub second: usize,
     pub power: usize,
@@ -29,76 +26,35 @@ fn is_five(s: &[u8], from: usize) -> bool
     (s[from] == b'"') & (s[from + 5] == b'0') & (s[from + 6] == b'"')
 }
 
-// No layout.
-pub(crate) fn no_layout() -> Layout
-    ensures { result.regular ≡ false }
-{
-    Layout {
-        regular: false,
-        first: 0,
-        second: 0,
-        power: 0,
-    }
-}
-
 // How the step at a place is laid out.
-pub(crate) fn layout_at(s: &[u8], at: usize) -> Layout
-    requires { length s.now ≤ object_most }
-    ensures laid_out { result.regular ≡ true → LaidOut before_from s.now at result }
-    ensures power_in_bounds { result.regular ≡ true → result.power + 4 ≤ length s.now }
+pub(crate) fn layout_at(s: &[u8], at: usize) -> Option<Layout>
+    requires { at ≤ length s.now }
+    ensures laid_out { IfSome result (λ l. LaidOut before_from s.now at l) }
+    ensures power_in_bounds { IfSome result (λ l. l.power + 4 ≤ length s.now) }
 {
-    let none = no_layout();
-    let open = past_blanks(s, at);
-    if byte_at(s, open) != b'{' {
-        return none;
-    }
-    let debut = past_blanks(s, open + 1);
-    if !stands(s, debut, b"\"Debut\"") {
-        return none;
-    }
-    let debut_colon = past_blanks(s, debut + 7);
-    if byte_at(s, debut_colon) != b':' {
-        return none;
-    }
-    let first = past_blanks(s, debut_colon + 1);
+    let open = after_mark(s, at, b'{')?;
+    let debut = after_text(s, open, b"\"Debut\"")?;
+    let first = value_at(s, debut)?;
     if !is_five(s, first) {
-        return none;
+        return None;
     }
-    let fin_comma = past_blanks(s, first + 7);
-    if byte_at(s, fin_comma) != b',' {
-        return none;
-    }
-    let fin = past_blanks(s, fin_comma + 1);
-    if !stands(s, fin, b"\"Fin\"") {
-        return none;
-    }
-    let fin_colon = past_blanks(s, fin + 5);
-    if byte_at(s, fin_colon) != b':' {
-        return none;
-    }
-    let second = past_blanks(s, fin_colon + 1);
+    let fin_comma = after_mark(s, first + 7, b',')?;
+    let fin = after_text(s, fin_comma, b"\"Fin\"")?;
+    let second = value_at(s, fin)?;
     if !is_five(s, second) {
-        return none;
+        return None;
     }
-    let power_comma = past_blanks(s, second + 7);
-    if byte_at(s, power_comma) != b',' {
-        return none;
+    let power_comma = after_mark(s, second + 7, b',')?;
+    let puissance = after_text(s, power_comma, b"\"Puissance\"")?;
+    let power = value_at(s, puissance)?;
+    if s.len() - power < 4 {
+        return None;
     }
-    let puissance = past_blanks(s, power_comma + 1);
-    if !stands(s, puissance, b"\"Puissance\"") {
-        return none;
-    }
-    let power_colon = past_blanks(s, puissance + 11);
-    if byte_at(s, power_colon) != b':' {
-        return none;
-    }
-    let power = past_blanks(s, power_colon + 1);
-    Layout {
-        regular: power + 4 <= s.len(),
+    Some(Layout {
         first,
         second,
         power,
-    }
+    })
 }
 
 // The power of a step that is laid out so, with two labels of a list.

@@ -1,23 +1,14 @@
 // A moment by its twenty bytes: "`YYYY-MM-DDTHH:mm:ssZ` with a date of document 01 and a time from 00:00:00 to
 // 23:59:59".
-ghost use Rattle.std.specs.Prelude.{true, ◌≡◌, length};
+ghost use Rattle.std.specs.Prelude.{true, false, ◌≡◌, length, MatchOption};
 ghost use Rattle.calendar.specs.Texts.{day_of};
+ghost use Rattle.calendar.specs.declared.texts.Day.TheVariants.{Number, NoDay};
 ghost use Rattle.request.specs.Moments.{is_moment_text, moment_in};
 ghost use Rattle.request_reader.specs.Walking.{marks_stand, date_digits, time_in};
 
 use calendar::Day;
 use calendar::texts::{day_at, pair};
 use request::Moment;
-
-// The seconds of a day.
-const DAY_SECONDS: u32 = 86400;
-
-// Whether a text is a moment's, and the moment.
-#[derive(Clone, Copy)]
-pub struct MomentRead {
-    pub good: bool,
-    pub moment: Moment,
-}
 
 // Whether the bytes that are no digits stand in their places.
 fn marks_stand(s: &[u8]) -> bool
@@ -33,20 +24,24 @@ fn marks_stand(s: &[u8]) -> bool
 }
 
 // The day of the eight digits of the date.
-fn day_in(s: &[u8]) -> Day
+fn day_in(s: &[u8]) -> Option<u32>
     requires { length s.now ≡ 20 }
-    ensures { result ≡ day_of (date_digits s.now) }
+    ensures { MatchOption result (day_of (date_digits s.now) ≡ NoDay) (λ n. day_of (date_digits s.now) ≡ Number n) }
 {
-    day_at(
+    let day = day_at(
         pair(s[0], s[1]),
         pair(s[2], s[3]),
         pair(s[5], s[6]),
         pair(s[8], s[9]),
-    )
+    );
+    match day {
+        Day::Number(n) => Some(n),
+        Day::NoDay => None,
+    }
 }
 
-// The second of the time; as many as a day has where there is no such time.
-fn time_in(s: &[u8]) -> u32
+// The second of the time.
+fn time_in(s: &[u8]) -> Option<u32>
     requires { length s.now ≡ 20 }
     ensures { result ≡ time_in s.now }
 {
@@ -54,38 +49,22 @@ fn time_in(s: &[u8]) -> u32
     let minute = pair(s[14], s[15]);
     let second = pair(s[17], s[18]);
     if (hour < 24) & (minute < 60) & (second < 60) {
-        3600 * hour + 60 * minute + second
+        Some(3600 * hour + 60 * minute + second)
     } else {
-        DAY_SECONDS
+        None
     }
 }
 
 // The moment that twenty bytes give.
-pub(crate) fn moment_of(s: &[u8]) -> MomentRead
+pub(crate) fn moment_of(s: &[u8]) -> Option<Moment>
     requires { length s.now ≡ 20 }
-    ensures { (result.good ≡ is_moment_text s.now)
-        × (result.good ≡ true → result.moment ≡ moment_in s.now) }
+    ensures { MatchOption result (is_moment_text s.now ≡ false)
+        (λ m. (is_moment_text s.now ≡ true) × (m ≡ moment_in s.now)) }
 {
-    let none = MomentRead {
-        good: false,
-        moment: Moment { day: 0, second: 0 },
-    };
     if !marks_stand(s) {
-        return none;
+        return None;
     }
-    let time = time_in(s);
-    if DAY_SECONDS <= time {
-        return none;
-    }
-    let day = day_in(s);
-    match day {
-        Day::Number(n) => {
-            let moment = Moment {
-                day: n,
-                second: time,
-            };
-            MomentRead { good: true, moment }
-        }
-        Day::NoDay => none,
-    }
+    let second = time_in(s)?;
+    let day = day_in(s)?;
+    Some(Moment { day, second })
 }

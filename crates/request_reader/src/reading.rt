@@ -47,21 +47,22 @@ fn read_text(body: &[u8]) -> RequestRead
     if body.len() > MOST_BYTES {
         return refuse(Refusal::Input(InputRefusal::Object, 0));
     }
-    let parties = take_parties(body);
-    let terms = take_terms(body, parties.at);
-    let from = series_from(body, terms.at);
-    if body.len() < from {
+    let Some(parties) = take_parties(body) else {
         return refuse(Refusal::Input(InputRefusal::Object, 0));
-    }
+    };
+    let Some(terms) = take_terms(body, parties.at) else {
+        return refuse(Refusal::Input(InputRefusal::Object, 0));
+    };
+    let Some(from) = series_from(body, terms.at) else {
+        return refuse(Refusal::Input(InputRefusal::Object, 0));
+    };
     let day = terms.day.day;
     let steps = steps_of(day);
     let mut powers = [0u16; 50];
-    let series = take_series(body, from, steps, &mut powers);
-    if !series.good {
+    let Some(tally) = take_series(body, from, steps, &mut powers) else {
         return refuse(Refusal::Input(InputRefusal::Object, 0));
-    }
-    let verdict = outcome(steps, series.tally, powers);
-    match verdict {
+    };
+    match outcome(steps, tally, powers) {
         Verdict::No(r) => refuse(r),
         Verdict::Pass => {
             let ceder = parties.ceder;
@@ -75,11 +76,10 @@ fn read_text(body: &[u8]) -> RequestRead
             };
             let notification = Notification { key, steps, powers };
             let origin = parties.origin;
-            let moment = terms.submitted;
             let request = Request {
                 notification,
                 origin,
-                moment,
+                moment: terms.submitted,
             };
             RequestRead {
                 verdict: Verdict::Pass,

@@ -1,13 +1,13 @@
 // Steps taken at once, where nothing stands between their tokens or where they are laid out as the step before them.
-ghost use Rattle.std.specs.Prelude.{true, ◌≡◌, ◌++◌, ◌+◌, ◌≤◌, length, drop};
+ghost use Rattle.std.specs.Prelude.{true, ◌≡◌, ℕ, ◌++◌, ◌+◌, ◌≤◌, length, drop, IfSome, IfNone};
+ghost use Rattle.std.specs.Option.{ForSome};
 ghost use Rattle.notification.specs.Forms.{places};
-ghost use Rattle.request.specs.Writing.{object_most};
 ghost use Rattle.request_reader.specs.Walking.{part};
 ghost use Rattle.request_reader.specs.Steps.{LaidOut, before_from, open_text, label_list, LabelEntry, Between, Wide};
 ghost use Rattle.request_reader.specs.Series.{PlainSays, LaidSays};
-ghost use Rattle.request_reader.specs.Series.{between_steps, Onward, NextStep};
+ghost use Rattle.request_reader.specs.Series.{between_steps, Fronts, Onward, NextStep};
 
-use crate::layouts::{Layout, layout_at, no_layout, own_front};
+use crate::layouts::{Layout, layout_at, own_front};
 use crate::series::{StepTold, Stepped};
 use crate::words::{eight_at, four_at, run_power, same_at, same_near};
 use reader::marks::{half_hours, run_end};
@@ -92,16 +92,18 @@ fn plain_next(s: &[u8], at: usize, t: &[u8], i: usize) -> Power
     plain_front(s, at, b"},{\"Debu", t, i)
 }
 
-// The steps after a step's power, as long as nothing stands between their tokens.
-fn plain_run(
+// The steps after a step's power, as long as a front finds the next one by two labels of a list.
+fn run<F: Fn(usize, usize) -> Power>(
     s: &[u8],
     from: usize,
     t: Tally,
     steps: u32,
     labels: &[u8],
     powers: &mut [u16; 50],
+    front: F,
 ) -> Stepped
-    requires { (from ≤ length s.now) × (steps ≤ places) × (labels.now ≡ label_list) }
+    requires known { (from ≤ length s.now) × (steps ≤ places) × (labels.now ≡ label_list) }
+    requires fronts { Fronts (λ at i. F.pre front at i) (λ at i r. F.post front at i r) labels.now s.now }
     ensures onward { Onward steps s.now from (record { tally = t; powers = powers.old })
         result.at (record { tally = result.tally; powers = powers.new }) }
     ensures at_in_bounds { result.at ≤ length s.now }
@@ -109,72 +111,21 @@ fn plain_run(
     if is_over(t, steps) | (steps < FEWEST_STEPS) {
         return Stepped { tally: t, at: from };
     }
-    let mut k = t.lines;
-    let stop = run_end(steps, k);
-    let mut i = half_hours(steps, k) as usize * 10;
-    let mut at = from;
-    while k < stop {
-        let front = plain_next(s, at, labels, i);
-        match front {
-            Power::Is(power, n) => {
-                powers[k as usize] = power;
-                at += n;
-                k += 1;
-                i += 10;
-            }
-            Power::Not => {
-                break;
-            }
-        }
-    }
-    let tally = Tally {
-        lines: k,
-        fault: 0,
-        place: t.place,
-    };
-    Stepped { tally, at }
-}
-
-// The steps after a step's power, as long as they are laid out as another step, which begins after a power.
-fn laid_run(
-    s: &[u8],
-    lead: usize,
-    l: Layout,
-    from: usize,
-    t: Tally,
-    steps: u32,
-    labels: &[u8],
-    powers: &mut [u16; 50],
-) -> Stepped
-    requires { (from ≤ length s.now) × (steps ≤ places) × (labels.now ≡ label_list)
-        × LaidOut (between_steps ++ before_from) s.now lead l × Wide lead l }
-    ensures onward { Onward steps s.now from (record { tally = t; powers = powers.old })
-        result.at (record { tally = result.tally; powers = powers.new }) }
-    ensures at_in_bounds { result.at ≤ length s.now }
-{
-    if is_over(t, steps) | (steps < FEWEST_STEPS) {
-        return Stepped { tally: t, at: from };
-    }
+    let mut lines = t.lines as usize;
     let stop = run_end(steps, t.lines) as usize;
     let mut i = half_hours(steps, t.lines) as usize * 10;
-    let mut k = t.lines as usize;
     let mut at = from;
-    while k < stop {
-        let front = laid_front(s, at, lead, l, labels, i);
-        match front {
-            Power::Is(power, n) => {
-                powers[k] = power;
-                at += n;
-                k += 1;
-                i += 10;
-            }
-            Power::Not => {
-                break;
-            }
-        }
+    for k in lines..stop {
+        let Power::Is(power, n) = front(at, i) else {
+            break;
+        };
+        powers[k] = power;
+        at += n;
+        i += 10;
+        lines = k + 1;
     }
     let tally = Tally {
-        lines: k as u32,
+        lines: lines as u32,
         fault: 0,
         place: t.place,
     };
@@ -192,8 +143,7 @@ fn is_between(from: usize, to: usize, most: usize) -> bool
 // Whether as many stand before each label and the power of a step as are compared there, from what is the same in each
 // label of a list on.
 fn is_wide(lead: usize, l: Layout) -> bool
-    requires { (lead ≤ l.first) × (l.first + 7 ≤ l.second) × (l.second + 7 ≤ l.power)
-        × (l.power ≤ object_most) }
+    requires { (lead ≤ l.first) × (l.first + 7 ≤ l.second) × (l.second + 7 ≤ l.power) }
     ensures { result ≡ true → Wide lead l }
 {
     is_between(lead, l.first + 1, 32)
@@ -205,35 +155,41 @@ fn is_wide(lead: usize, l: Layout) -> bool
 // after another's power, as long as they are laid out as it is.
 pub(crate) fn steps_run(
     s: &[u8],
-    laid: bool,
     lead: usize,
-    l: Layout,
+    layout: Option<Layout>,
     from: usize,
     t: Tally,
     steps: u32,
     labels: &[u8],
     powers: &mut [u16; 50],
 ) -> Stepped
-    requires { (length s.now ≤ object_most) × (steps ≤ places) × (labels.now ≡ label_list)
-        × (laid ≡ true → LaidOut (between_steps ++ before_from) s.now lead l) }
-    ensures { Onward steps s.now from (record { tally = t; powers = powers.old })
+    requires { (from ≤ length s.now) × (steps ≤ places) × (labels.now ≡ label_list)
+        × ForSome layout (λ l. LaidOut (between_steps ++ before_from) s.now lead l) }
+    ensures onward { Onward steps s.now from (record { tally = t; powers = powers.old })
         result.at (record { tally = result.tally; powers = powers.new }) }
+    ensures at_in_bounds { result.at ≤ length s.now }
 {
-    if s.len() < from {
-        return Stepped { tally: t, at: from };
-    }
-    let run = plain_run(s, from, t, steps, labels, &mut *powers);
-    if !laid {
-        return run;
-    }
+    let plain = run(
+        s,
+        from,
+        t,
+        steps,
+        labels,
+        &mut *powers,
+        |at, i| plain_next(s, at, labels, i),
+    );
+    let Some(l) = layout else {
+        return plain;
+    };
     if !is_wide(lead, l) {
-        return run;
+        return plain;
     }
-    let sofar = run.tally;
-    laid_run(s, lead, l, run.at, sofar, steps, labels, powers)
+    run(s, plain.at, plain.tally, steps, labels, powers, |at, i| {
+        laid_front(s, at, lead, l, labels, i)
+    })
 }
 
-// The first step of the day, where nothing stands between its tokens; no step where it isn't so.
+// The first step of the day, where nothing stands between its tokens.
 pub(crate) fn first_step(
     s: &[u8],
     at: usize,
@@ -241,52 +197,39 @@ pub(crate) fn first_step(
     steps: u32,
     labels: &[u8],
     powers: &mut [u16; 50],
-) -> StepTold
-    requires { (length s.now ≤ object_most) × (steps ≤ places) × (labels.now ≡ label_list) }
-    ensures powers_unchanged { result.tally.lines ≡ t.lines → powers.new ≡ powers.old }
-    ensures next_step { (result.tally.lines ≡ t.lines → ⊥) → NextStep steps s.now at result.at
-        (record { tally = t; powers = powers.old })
-        (record { tally = result.tally; powers = powers.new }) }
-    ensures laid_out { result.layout.regular ≡ true → LaidOut before_from s.now at result.layout }
+) -> Option<StepTold>
+    requires { (at ≤ length s.now) × (steps ≤ places) × (labels.now ≡ label_list) }
+    ensures powers_unchanged { IfNone result (powers.new ≡ powers.old) }
+    ensures next_step { IfSome result (λ r. NextStep steps s.now at r.at
+        (record { tally = t; powers = powers.old }) (record { tally = r.tally; powers = powers.new })) }
+    ensures no_layout { IfSome result (λ r. r.layout ≡ None) }
 {
-    let none = StepTold {
-        tally: t,
-        at,
-        layout: no_layout(),
-    };
     if is_over(t, steps) | (steps < FEWEST_STEPS) {
-        return none;
+        return None;
     }
     if t.lines != 0 {
-        return none;
+        return None;
     }
     if at < 2 {
-        return none;
+        return None;
     }
-    if s.len() < at {
-        return none;
-    }
-    let front = plain_front(s, at - 2, b":[{\"Debu", labels, 0);
-    match front {
-        Power::Is(power, n) => {
-            powers[0] = power;
-            let tally = Tally {
-                lines: 1,
-                fault: 0,
-                place: t.place,
-            };
-            StepTold {
-                tally,
-                at: at - 2 + n,
-                layout: no_layout(),
-            }
-        }
-        Power::Not => none,
-    }
+    let Power::Is(power, n) = plain_front(s, at - 2, b":[{\"Debu", labels, 0) else {
+        return None;
+    };
+    powers[0] = power;
+    let tally = Tally {
+        lines: 1,
+        fault: 0,
+        place: t.place,
+    };
+    Some(StepTold {
+        tally,
+        at: at - 2 + n,
+        layout: None,
+    })
 }
 
-// A step of the day whose labels stand in the list, whatever blanks stand between its tokens; no step where it isn't
-// so.
+// A step of the day whose labels stand in the list, whatever blanks stand between its tokens.
 pub(crate) fn listed_step(
     s: &[u8],
     at: usize,
@@ -294,46 +237,34 @@ pub(crate) fn listed_step(
     steps: u32,
     labels: &[u8],
     powers: &mut [u16; 50],
-) -> StepTold
-    requires { (length s.now ≤ object_most) × (steps ≤ places) × (labels.now ≡ label_list) }
-    ensures powers_unchanged { result.tally.lines ≡ t.lines → powers.new ≡ powers.old }
-    ensures next_step { (result.tally.lines ≡ t.lines → ⊥) → NextStep steps s.now at result.at
-        (record { tally = t; powers = powers.old })
-        (record { tally = result.tally; powers = powers.new }) }
-    ensures laid_out { result.layout.regular ≡ true → LaidOut before_from s.now at result.layout }
+) -> Option<StepTold>
+    requires { (at ≤ length s.now) × (steps ≤ places) × (labels.now ≡ label_list) }
+    ensures powers_unchanged { IfNone result (powers.new ≡ powers.old) }
+    ensures next_step { IfSome result (λ r. NextStep steps s.now at r.at
+        (record { tally = t; powers = powers.old }) (record { tally = r.tally; powers = powers.new })) }
+    ensures laid_out { IfSome result (λ r. IfSome r.layout (λ l. LaidOut before_from s.now at l)) }
 {
-    let none = StepTold {
-        tally: t,
-        at,
-        layout: no_layout(),
-    };
     if is_over(t, steps) | (steps < FEWEST_STEPS) {
-        return none;
+        return None;
     }
     let k = t.lines;
     if run_end(steps, k) <= k {
-        return none;
+        return None;
     }
     let i = half_hours(steps, k) as usize * 10;
-    let layout = layout_at(s, at);
-    if !layout.regular {
-        return none;
-    }
-    let front = own_front(s, layout, labels, i);
-    match front {
-        Power::Is(power, n) => {
-            powers[k as usize] = power;
-            let tally = Tally {
-                lines: k + 1,
-                fault: 0,
-                place: t.place,
-            };
-            StepTold {
-                tally,
-                at: layout.power + n,
-                layout,
-            }
-        }
-        Power::Not => none,
-    }
+    let layout = layout_at(s, at)?;
+    let Power::Is(power, n) = own_front(s, layout, labels, i) else {
+        return None;
+    };
+    powers[k as usize] = power;
+    let tally = Tally {
+        lines: k + 1,
+        fault: 0,
+        place: t.place,
+    };
+    Some(StepTold {
+        tally,
+        at: layout.power + n,
+        layout: Some(layout),
+    })
 }

@@ -1,13 +1,13 @@
 // The steps of an object, and what closes it.
-ghost use Rattle.std.specs.Prelude.{◌≡◌, true, ◌≤◌, length, drop};
+ghost use Rattle.std.specs.Prelude.{◌≡◌, true, false, ◌≤◌, length, drop, IfSome, MatchOption};
 ghost use Rattle.notification.specs.Forms.{places};
 ghost use Rattle.reader.specs.Folding.{no_steps, step_taken};
 ghost use Rattle.request.specs.Tokens.{tokens, fits};
-ghost use Rattle.request.specs.Writing.{object_most};
-ghost use Rattle.request_reader.specs.Steps.{LaidOut, before_from, label_list};
-ghost use Rattle.request_reader.specs.Series.{closing, first_step, NextStep, SeriesAt};
+ghost use Rattle.request_reader.specs.Steps.{LaidOut, before_from, front_tests, label_list};
+ghost use Rattle.request_reader.specs.Series.{closing, first_step, is_series, NextStep, SeriesAt};
+ghost use Rattle.request_reader.specs.Walking.{Missing};
 
-use crate::layouts::{Layout, no_layout};
+use crate::layouts::Layout;
 use crate::runs::{first_step, listed_step, steps_run};
 use crate::step::step_at;
 use crate::tokens::{after_mark, past_blanks};
@@ -26,19 +26,12 @@ pub struct Stepped {
     pub at: usize,
 }
 
-// The same, and how the step is laid out.
+// The same, and how the step is laid out, where that was looked at.
 #[derive(Clone, Copy)]
 pub struct StepTold {
     pub tally: Tally,
     pub at: usize,
-    pub layout: Layout,
-}
-
-// Whether the steps and what closes the object stand there, and what is kept of them.
-#[derive(Clone, Copy)]
-pub struct SeriesRead {
-    pub good: bool,
-    pub tally: Tally,
+    pub layout: Option<Layout>,
 }
 
 // A step more, by what it says. After a fault, and past the day's steps, it is only counted.
@@ -54,11 +47,11 @@ fn tell(t: Tally, steps: u32, said: LinePower, powers: &mut [u16; 50]) -> Tally
 }
 
 // The next step token by token, with the labels of its place in the day.
-fn told_step(s: &[u8], at: usize, t: Tally, steps: u32, powers: &mut [u16; 50]) -> Stepped
-    requires { (length s.now ≤ object_most) × (1 ≤ steps) × (steps ≤ places) }
-    ensures { NextStep steps s.now at result.at
-        (record { tally = t; powers = powers.old })
-        (record { tally = result.tally; powers = powers.new }) }
+fn told_step(s: &[u8], at: usize, t: Tally, steps: u32, powers: &mut [u16; 50]) -> Option<StepTold>
+    requires { (at ≤ length s.now) × (1 ≤ steps) × (steps ≤ places) }
+    ensures told { MatchOption result (Missing front_tests s.now at) (λ r. NextStep steps s.now at r.at
+        (record { tally = t; powers = powers.old }) (record { tally = r.tally; powers = powers.new })) }
+    ensures no_layout { IfSome result (λ r. r.layout ≡ None) }
 {
     let k = least(t.lines, steps);
     let from = hour_label(steps, k);
@@ -67,12 +60,12 @@ fn told_step(s: &[u8], at: usize, t: Tally, steps: u32, powers: &mut [u16; 50]) 
     let until_bytes = until.bytes;
     let m = from.len as usize;
     let n = until.len as usize;
-    let step = step_at(s, at, &from_bytes[..m], &until_bytes[..n]);
-    let said = step.said;
-    Stepped {
-        tally: tell(t, steps, said, powers),
+    let step = step_at(s, at, &from_bytes[..m], &until_bytes[..n])?;
+    Some(StepTold {
+        tally: tell(t, steps, step.said, powers),
         at: step.at,
-    }
+        layout: None,
+    })
 }
 
 // The next step: the first where nothing stands between its tokens, one whose labels stand in the list, or token by
@@ -84,66 +77,56 @@ fn next_step(
     steps: u32,
     labels: &[u8],
     powers: &mut [u16; 50],
-) -> StepTold
-    requires { (length s.now ≤ object_most) × (1 ≤ steps) × (steps ≤ places) × (labels.now ≡ label_list) }
-    ensures next_step { NextStep steps s.now at result.at
-        (record { tally = t; powers = powers.old })
-        (record { tally = result.tally; powers = powers.new }) }
-    ensures laid_out { result.layout.regular ≡ true → LaidOut before_from s.now at result.layout }
+) -> Option<StepTold>
+    requires { (at ≤ length s.now) × (1 ≤ steps) × (steps ≤ places) × (labels.now ≡ label_list) }
+    ensures told { MatchOption result (Missing front_tests s.now at) (λ r. NextStep steps s.now at r.at
+        (record { tally = t; powers = powers.old }) (record { tally = r.tally; powers = powers.new })) }
+    ensures laid_out { IfSome result (λ r. IfSome r.layout (λ l. LaidOut before_from s.now at l)) }
 {
-    let first = first_step(s, at, t, steps, labels, &mut *powers);
-    if first.tally.lines != t.lines {
-        return first;
+    if let Some(step) = first_step(s, at, t, steps, labels, &mut *powers) {
+        return Some(step);
     }
-    let listed = listed_step(s, at, t, steps, labels, &mut *powers);
-    if listed.tally.lines != t.lines {
-        return listed;
+    if let Some(step) = listed_step(s, at, t, steps, labels, &mut *powers) {
+        return Some(step);
     }
-    let told = told_step(s, at, t, steps, powers);
-    let tally = told.tally;
-    StepTold {
-        tally,
-        at: told.at,
-        layout: no_layout(),
-    }
+    told_step(s, at, t, steps, powers)
 }
 
 // Whether `]` and `}` stand at a place, and nothing after them.
 fn is_closed(s: &[u8], at: usize) -> bool
-    requires { length s.now ≤ object_most }
+    requires { at ≤ length s.now }
     ensures { result ≡ fits closing (tokens (drop at s.now)) }
 {
-    let inner = after_mark(s, at, b']');
-    let outer = after_mark(s, inner, b'}');
-    if s.len() < outer {
+    let Some(inner) = after_mark(s, at, b']') else {
         return false;
-    }
+    };
+    let Some(outer) = after_mark(s, inner, b'}') else {
+        return false;
+    };
     s.len() <= past_blanks(s, outer)
 }
 
 // The steps and what closes the object.
-pub(crate) fn take_series(s: &[u8], from: usize, steps: u32, powers: &mut [u16; 50]) -> SeriesRead
-    requires { (length s.now ≤ object_most) × (1 ≤ steps) × (steps ≤ places) }
-    ensures { SeriesAt steps s.now from
-        (record { tally = no_steps; powers = powers.old })
-        result.good (record { tally = result.tally; powers = powers.new }) }
+pub(crate) fn take_series(
+    s: &[u8],
+    from: usize,
+    steps: u32,
+    powers: &mut [u16; 50],
+) -> Option<Tally>
+    requires { (from ≤ length s.now) × (1 ≤ steps) × (steps ≤ places) }
+    ensures { MatchOption result (is_series (tokens (drop from s.now)) ≡ false)
+        (λ t. SeriesAt steps s.now from
+        (record { tally = no_steps; powers = powers.old }) (record { tally = t; powers = powers.new })) }
 {
-    let first = past_blanks(s, from);
-    if byte_at(s, first) == b']' {
-        return SeriesRead {
-            good: is_closed(s, first),
-            tally: Tally {
-                lines: 0,
-                fault: 0,
-                place: 0,
-            },
-        };
-    }
     let mut tally = Tally {
         lines: 0,
         fault: 0,
         place: 0,
     };
+    let first = past_blanks(s, from);
+    if byte_at(s, first) == b']' {
+        return is_closed(s, first).then_some(tally);
+    }
     let mut at = first;
     // The place after the power before the step at `at`; at the first step that step's.
     let mut lead = first;
@@ -156,30 +139,25 @@ pub(crate) fn take_series(s: &[u8], from: usize, steps: u32, powers: &mut [u16; 
         t\":\"20h00\"t\":\"20h30\"t\":\"21h00\"t\":\"21h30\"t\":\"22h00\"t\":\"22h30\"t\":\"23h00\"t\":\"23h30\"\
         t\":\"00h00\"";
     loop {
-        let step = next_step(s, at, tally, steps, labels, &mut *powers);
-        let laid = (lead < at) & step.layout.regular;
-        let layout = step.layout;
-        let sofar = step.tally;
+        let step = next_step(s, at, tally, steps, labels, &mut *powers)?;
+        // How the step is laid out after the power of another.
+        let layout = if lead < at { step.layout } else { None };
         let run = steps_run(
             s,
-            laid,
             lead,
             layout,
             step.at,
-            sofar,
+            step.tally,
             steps,
             labels,
             &mut *powers,
         );
         tally = run.tally;
         lead = run.at;
-        let end = after_mark(s, lead, b'}');
+        let end = after_mark(s, lead, b'}')?;
         let mark = past_blanks(s, end);
         if byte_at(s, mark) != b',' {
-            return SeriesRead {
-                good: is_closed(s, mark),
-                tally,
-            };
+            return is_closed(s, mark).then_some(tally);
         }
         at = mark + 1;
     }

@@ -1,16 +1,14 @@
 // A step of an object: its two labels, held against those of its place in the day, and its power.
-ghost use Rattle.std.specs.Prelude.{true, false, ◌&&◌, ◌≡◌, [], ◌∷◌, ◌++◌, ◌-◌, ◌≤◌, length, get_or, take, drop};
+ghost use Rattle.std.specs.Prelude.{true, false, ◌&&◌, ◌≡◌, [], ◌∷◌, ◌++◌, ◌-◌, ◌≤◌, length, get_or, take, drop, MatchOption};
 ghost use Rattle.lists.specs.Searches.{every, same};
 ghost use Rattle.notification.specs.Forms.{is_digit};
 ghost use Rattle.request.specs.Tokens.{is_blank, quoted_by};
-ghost use Rattle.request.specs.Writing.{object_most};
 ghost use Rattle.request.specs.Reading.{is_label_byte};
-ghost use Rattle.request_reader.specs.Walking.{RunTo, Walked, between, framed, is_quoted};
-ghost use Rattle.request_reader.specs.Steps.{LabelAt, PowerAt, StepAt, power_of, said_of};
+ghost use Rattle.request_reader.specs.Walking.{Missing, RunTo, WalkSays, between, framed, is_quoted};
+ghost use Rattle.request_reader.specs.Steps.{LabelAt, PowerAt, StepAt, front_tests, label_tests, power_of, power_tests, said_of};
 
-use crate::tokens::{NOWHERE, after_mark, is_framed, value_from};
+use crate::tokens::{after_mark, is_framed, value_from};
 use crate::words::same_text;
-use calendar::Label;
 use lists::bytes::byte_at;
 use notification::forms::is_digit;
 use reader::power::{Power, power_of};
@@ -46,50 +44,46 @@ fn is_label_byte(b: u8) -> bool
 
 // The first place from a place on where no byte of a label stands.
 fn label_run(s: &[u8], from: usize) -> usize
+    requires { from ≤ length s.now }
     ensures { RunTo is_label_byte s.now from result }
 {
-    let mut i = from;
-    while i < s.len() {
-        if !is_label_byte(s[i]) {
-            return i;
-        }
-        i += 1;
-    }
-    i
+    let rest = &s[from..];
+    from + rest
+        .iter()
+        .position(|b| !is_label_byte(*b))
+        .unwrap_or(rest.len())
 }
 
 // The first place from a place on where no digit stands.
 fn digit_run(s: &[u8], from: usize) -> usize
+    requires { from ≤ length s.now }
     ensures { RunTo is_digit s.now from result }
 {
-    let mut i = from;
-    while i < s.len() {
-        if !is_digit(s[i]) {
-            return i;
-        }
-        i += 1;
-    }
-    i
+    let rest = &s[from..];
+    from + rest
+        .iter()
+        .position(|b| !is_digit(*b))
+        .unwrap_or(rest.len())
 }
 
 // The place after a label of any bytes that may stand in one.
-fn label_end(s: &[u8], from: usize) -> usize
-    requires { (length s.now ≤ object_most) × (is_blank (get_or s.now from 0) ≡ false) }
-    ensures { Walked (quoted_by (every is_label_byte) ∷ []) s.now from result }
+fn label_end(s: &[u8], from: usize) -> Option<usize>
+    requires { (from ≤ length s.now) × (is_blank (get_or s.now from 0) ≡ false) }
+    ensures { WalkSays (quoted_by (every is_label_byte) ∷ []) s.now from result }
 {
     if byte_at(s, from) != b'"' {
-        return NOWHERE;
+        return None;
     }
     let end = label_run(s, from + 1);
     if byte_at(s, end) != b'"' {
-        return NOWHERE;
+        return None;
     }
-    end + 1
+    Some(end + 1)
 }
 
 // Whether a text stands in quotes at a place.
 fn is_quoted_at(s: &[u8], from: usize, text: &[u8]) -> bool
-    requires { length text.now ≤ 20 }
+    requires { (from ≤ length s.now) × (length text.now ≤ 20) }
     ensures { result ≡ (framed s.now from (length text.now)
         && same (between s.now from (length text.now)) text.now) }
 {
@@ -101,27 +95,26 @@ fn is_quoted_at(s: &[u8], from: usize, text: &[u8]) -> bool
 }
 
 // The member of a label, and whether it is the label wanted.
-fn label_member(s: &[u8], at: usize, name: &[u8], wanted: &[u8]) -> LabelRead
-    requires { (length s.now ≤ object_most) × (is_quoted name.now ≡ true)
+fn label_member(s: &[u8], at: usize, name: &[u8], wanted: &[u8]) -> Option<LabelRead>
+    requires { (at ≤ length s.now) × (is_quoted name.now ≡ true)
         × (every is_label_byte wanted.now ≡ true) × (length wanted.now ≤ 20) }
-    ensures { LabelAt name.now wanted.now s.now at result.at result.right }
+    ensures { MatchOption result (Missing (label_tests name.now) s.now at)
+        (λ l. LabelAt name.now wanted.now s.now at l.at l.right) }
 {
-    let from = value_from(s, at, name);
+    let from = value_from(s, at, name)?;
     if is_quoted_at(s, from, wanted) {
-        return LabelRead {
+        return Some(LabelRead {
             right: true,
             at: from + wanted.len() + 2,
-        };
+        });
     }
-    LabelRead {
-        right: false,
-        at: label_end(s, from),
-    }
+    let at = label_end(s, from)?;
+    Some(LabelRead { right: false, at })
 }
 
 // A byte of a run of digits; `;` after them, and 0 past it.
 fn digit_or_end(s: &[u8], from: usize, end: usize, i: usize) -> u8
-    requires { (from ≤ end) × (end ≤ length s.now) × (i ≤ 4) × (length s.now ≤ object_most) }
+    requires { (from ≤ end) × (end ≤ length s.now) × (i ≤ 4) }
     ensures { result ≡ get_or (take (end - from) (drop from s.now) ++ 59 ∷ []) i 0 }
 {
     let at = from + i;
@@ -136,7 +129,7 @@ fn digit_or_end(s: &[u8], from: usize, end: usize, i: usize) -> u8
 
 // The power of a run of digits.
 fn digits_power(s: &[u8], from: usize, end: usize) -> Power
-    requires { (from ≤ end) × (end ≤ length s.now) × (length s.now ≤ object_most) }
+    requires { (from ≤ end) × (end ≤ length s.now) }
     ensures { result ≡ power_of (take (end - from) (drop from s.now)) }
 {
     power_of(
@@ -149,22 +142,20 @@ fn digits_power(s: &[u8], from: usize, end: usize) -> Power
 }
 
 // The member of a power.
-fn power_member(s: &[u8], at: usize, name: &[u8]) -> PowerRead
-    requires { (length s.now ≤ object_most) × (is_quoted name.now ≡ true) }
-    ensures { PowerAt name.now s.now at result.at result.power }
+fn power_member(s: &[u8], at: usize, name: &[u8]) -> Option<PowerRead>
+    requires { (at ≤ length s.now) × (is_quoted name.now ≡ true) }
+    ensures { MatchOption result (Missing (power_tests name.now) s.now at)
+        (λ p. PowerAt name.now s.now at p.at p.power) }
 {
-    let from = value_from(s, at, name);
+    let from = value_from(s, at, name)?;
     let end = digit_run(s, from);
     if end == from {
-        return PowerRead {
-            power: Power::Not,
-            at: NOWHERE,
-        };
+        return None;
     }
-    PowerRead {
+    Some(PowerRead {
         power: digits_power(s, from, end),
         at: end,
-    }
+    })
 }
 
 // What is said of a step by its labels and its power.
@@ -181,20 +172,20 @@ fn say(right: bool, power: Power) -> LinePower
 }
 
 // A step up to its power, by the two labels that it should have.
-pub(crate) fn step_at(s: &[u8], at: usize, from: &[u8], until: &[u8]) -> StepRead
-    requires { (length s.now ≤ object_most) × (every is_label_byte from.now ≡ true) × (length from.now ≤ 20)
+pub(crate) fn step_at(s: &[u8], at: usize, from: &[u8], until: &[u8]) -> Option<StepRead>
+    requires { (at ≤ length s.now) × (every is_label_byte from.now ≡ true) × (length from.now ≤ 20)
         × (every is_label_byte until.now ≡ true) × (length until.now ≤ 20) }
-    ensures { StepAt from.now until.now s.now at result.at result.said }
+    ensures { MatchOption result (Missing front_tests s.now at)
+        (λ r. StepAt from.now until.now s.now at r.at r.said) }
 {
-    let inner = after_mark(s, at, b'{');
-    let first = label_member(s, inner, b"\"Debut\"", from);
-    let next = after_mark(s, first.at, b',');
-    let second = label_member(s, next, b"\"Fin\"", until);
-    let last = after_mark(s, second.at, b',');
-    let third = power_member(s, last, b"\"Puissance\"");
-    let power = third.power;
-    StepRead {
-        said: say(first.right & second.right, power),
+    let inner = after_mark(s, at, b'{')?;
+    let first = label_member(s, inner, b"\"Debut\"", from)?;
+    let next = after_mark(s, first.at, b',')?;
+    let second = label_member(s, next, b"\"Fin\"", until)?;
+    let last = after_mark(s, second.at, b',')?;
+    let third = power_member(s, last, b"\"Puissance\"")?;
+    Some(StepRead {
+        said: say(first.right & second.right, third.power),
         at: third.at,
-    }
+    })
 }

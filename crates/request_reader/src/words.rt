@@ -36,6 +36,7 @@ pub(crate) fn eight_at(s: &[u8], p: usize, t: &[u8], q: usize) -> bool
 }
 
 // Whether a text stands at a place that has room for it.
+#[inline(always)]
 pub(crate) fn same_text(s: &[u8], at: usize, text: &[u8]) -> bool
     requires { at + length text.now ≤ length s.now }
     ensures { result
@@ -48,14 +49,8 @@ pub(crate) fn same_text(s: &[u8], at: usize, text: &[u8]) -> bool
     if n < 8 {
         return four_at(s, at, text, 0) & four_at(s, at + n - 4, text, n - 4);
     }
-    let mut i: usize = 0;
-    while i + 8 < n {
-        if !eight_at(s, at + i, text, i) {
-            return false;
-        }
-        i += 8;
-    }
-    eight_at(s, at + n - 8, text, n - 8)
+    (0..(n - 1) / 8).all(|k| eight_at(s, at + 8 * k, text, 8 * k))
+        && eight_at(s, at + n - 8, text, n - 8)
 }
 
 // Whether the same bytes, 16 to 32, stand at two places.

@@ -10,15 +10,13 @@ use Prim.Native.Nat.{ℕ, ◌≤◌}
 use native.Mathlib.Omega.{arith}
 use lib.ListN.{length, take, drop}
 use Rattle.refusals.specs.declared.Refusal.{Refusal}
-use Rattle.refusals.specs.declared.Verdict.{Verdict}
-use Rattle.refusals.specs.declared.Verdict.TheVariants.{Pass}
+use Rattle.std.specs.Prelude.{Result, Ok, Err}
+use Rattle.refusals.specs.Tests.{Verdict, pass}
 use Rattle.notification.specs.Forms.{places}
-use Rattle.notification.specs.Writing.{name_of, body_of, written, Writes}
-use Rattle.notification.specs.Reading.{accepted, read_file}
+use Rattle.notification.specs.Writing.{name_of, body_of, lengths, written, Writes}
+use Rattle.notification.specs.Reading.{read_file}
 use Rattle.notification.specs.declared.Notification.{Notification}
-use Rattle.notification.specs.declared.Reading.{Reading}
-use Rattle.notification.specs.declared.Written.{Written}
-use Rattle.notification.specs.declared.Written.TheVariants.{Lengths, Refused}
+use Rattle.notification.specs.declared.FileLengths.{FileLengths}
 use Rattle.notification.proofs.TwoWays.{two_ways}
 use Rattle.notification.proofs.Buffers.{begins_with, rest_kept as rest-as-before, as_long, passes_fit, answers_fit, Answered, answered, untouched}
 use Rattle.writer.specs.Placing.{FileWritten}
@@ -32,15 +30,15 @@ use Rattle.writer.proofs.writing.write_file.Reads as write-reads
 -- ---- the two calls, as Rattle reads them off the source
 
 -- A NAME AND A BODY, READ, AND THE ANSWER: of it nothing is known but what `read_file` ensures where what it asks holds
-pub data Read : List ℕ → List ℕ → Reading → Type 1 where
-  read : (κs : Lifetimes.Lfts 2) (x : World.ArgsD read-fn.signature κs) (y : Reading)
+pub data Read : List ℕ → List ℕ → Result Notification Refusal → Type 1 where
+  read : (κs : Lifetimes.Lfts 2) (x : World.ArgsD read-fn.signature κs) (y : Result Notification Refusal)
       (s : Clauses.AtExit (Kinds.ended_of 2 read-kinds.ps read-kinds.r) κs) →
       (read-reads.Asked κs x → read-reads.Post κs x y s) → Read x.0.now x.1.0.now y
 
 -- A NOTIFICATION, WRITTEN INTO TWO BUFFERS, THE ANSWER, AND THE BUFFERS AFTERWARDS: nothing is known but what `write_file`
 -- ensures where what it asks holds, and what the types of its arguments say, as that an array has so many places
-pub data Wrote : Notification → List ℕ → List ℕ → Written → List ℕ → List ℕ → Type 1 where
-  wrote : (κs : Lifetimes.Lfts 2) (x : World.ArgsD write-fn.signature κs) (w : Written)
+pub data Wrote : Notification → List ℕ → List ℕ → Result FileLengths Refusal → List ℕ → List ℕ → Type 1 where
+  wrote : (κs : Lifetimes.Lfts 2) (x : World.ArgsD write-fn.signature κs) (w : Result FileLengths Refusal)
       (s : Clauses.AtExit (Kinds.ended_of 2 write-kinds.ps write-kinds.r) κs) → Kinds.GoodsP κs write-kinds.ps x →
       (write-reads.Asked κs x → write-reads.Post κs x w s) →
       Wrote x.0 x.1.0.now x.1.1.0.now w s.1.0.now s.1.1.0.now
@@ -55,26 +53,26 @@ pub record Put (p : ℕ) (before after : List ℕ) : Type 0 where
 pub record RoundTrip : Type 1 where
   -- written, then read: as many first bytes of the buffers as the writer answers are read as the notification, and nothing
   -- else of the buffers was touched
-  pub written_read : {n : Notification} {a b a' b' : List ℕ} {p q : ℕ} {y : Reading} → Wrote n a b (Lengths p q) a' b' →
-      Read (take p a') (take q b') y → y ≡ accepted n
-  pub rest_kept : {n : Notification} {a b a' b' : List ℕ} {p q : ℕ} → Wrote n a b (Lengths p q) a' b' → Put p a a' × Put q b b'
+  pub written_read : {n : Notification} {a b a' b' : List ℕ} {p q : ℕ} {y : Result Notification Refusal} → Wrote n a b (Ok (lengths p q)) a' b' →
+      Read (take p a') (take q b') y → y ≡ Ok n
+  pub rest_kept : {n : Notification} {a b a' b' : List ℕ} {p q : ℕ} → Wrote n a b (Ok (lengths p q)) a' b' → Put p a a' × Put q b b'
   -- read, then written: a notification that was read from a file is written as that file, where the buffers are long enough
-  pub read_written : {name body a b a' b' : List ℕ} {y : Reading} {w : Written} → Read name body y → y.verdict ≡ Pass →
-      Wrote y.notification a b w a' b' → length name ≤ length a → length body ≤ length b →
-      (w ≡ Lengths (length name) (length body)) × (a' ≡ name ++ drop (length name) a) × (b' ≡ body ++ drop (length body) b)
+  pub read_written : {n : Notification} {name body a b a' b' : List ℕ} {w : Result FileLengths Refusal} → Read name body (Ok n) →
+      Wrote n a b w a' b' → length name ≤ length a → length body ≤ length b →
+      (w ≡ Ok (lengths (length name) (length body))) × (a' ≡ name ++ drop (length name) a) × (b' ≡ body ++ drop (length body) b)
   -- a refusal leaves both buffers as they were
-  pub refused_kept : {n : Notification} {a b a' b' : List ℕ} {r : Refusal} → Wrote n a b (Refused r) a' b' → (a' ≡ a) × (b' ≡ b)
+  pub refused_kept : {n : Notification} {a b a' b' : List ℕ} {r : Refusal} → Wrote n a b (Err r) a' b' → (a' ≡ a) × (b' ≡ b)
 
 -- ---- what the contracts give: nothing is asked, so what is ensured holds
 
-read_is : {name body : List ℕ} {y : Reading} → Read name body y → y ≡ read_file name body
+read_is : {name body : List ℕ} {y : Result Notification Refusal} → Read name body y → y ≡ read_file name body
 read_is (read κs x y s e) = e tt
 
-wrote_is : {n : Notification} {a b a' b' : List ℕ} {w : Written} → Wrote n a b w a' b' → FileWritten n a b w a' b'
+wrote_is : {n : Notification} {a b a' b' : List ℕ} {w : Result FileLengths Refusal} → Wrote n a b w a' b' → FileWritten n a b w a' b'
 wrote_is (wrote κs x w s g e) = e tt
 
 -- an array's type says how many places it has
-six_and_fifty : {n : Notification} {a b a' b' : List ℕ} {w : Written} → Wrote n a b w a' b' →
+six_and_fifty : {n : Notification} {a b a' b' : List ℕ} {w : Result FileLengths Refusal} → Wrote n a b w a' b' →
     (length n.key.category ≡ 6) × (length n.powers ≡ places)
 six_and_fifty (wrote κs x w s g e) =
     let types = g.0.1.1 in
@@ -82,27 +80,27 @@ six_and_fifty (wrote κs x w s g e) =
 
 -- ---- one buffer after a pass
 
-module _ (v : Verdict) (pass : v ≡ Pass) (text before after : List ℕ) (left : after ≡ written v text before) where
+module _ (v : Verdict) (passed : v ≡ pass) (text before after : List ℕ) (left : after ≡ written v text before) where
   taken : (p : ℕ) → p ≡ length text → take p after ≡ text
-  taken p e = rw (e, left, pass) (begins_with text before)
+  taken p e = rw (e, left, passed) (begins_with text before)
 
   put : (p : ℕ) → p ≡ length text → p ≤ length before → Put p before after
   put p e h =
-      let l : length after ≡ length before = rw (left, pass) (as_long text before (omega arith)) in
+      let l : length after ≡ length before = rw (left, passed) (as_long text before (omega arith)) in
       record {
         within = omega arith;
         as_before = l;
-        rest = rw (e, left, pass) (rest-as-before text before);
+        rest = rw (e, left, passed) (rest-as-before text before);
       }
 
   put_whole : (t : List ℕ) → t ≡ text → after ≡ t ++ drop (length t) before
   unfolding written
-  put_whole t e = left ∙ rw (pass, e)
+  put_whole t e = left ∙ rw (passed, e)
 
 -- ---- two lengths were answered
 
-module _ {n : Notification} {a b a' b' : List ℕ} {p q : ℕ} (d : Wrote n a b (Lengths p q) a' b') where
-  abbrev left : FileWritten n a b (Lengths p q) a' b'
+module _ {n : Notification} {a b a' b' : List ℕ} {p q : ℕ} (d : Wrote n a b (Ok (lengths p q)) a' b') where
+  abbrev left : FileWritten n a b (Ok (lengths p q)) a' b'
   left = wrote_is d
 
   abbrev says : Answered n (length a) (length b) p q
@@ -126,22 +124,21 @@ module _ {n : Notification} {a b a' b' : List ℕ} {p q : ℕ} (d : Wrote n a b 
 
 -- ---- a file was accepted
 
-accepted_file : {name body : List ℕ} {y : Reading} → Read name body y → y.verdict ≡ Pass → Writes y.notification name body
-accepted_file {name} {body} {y} r v =
-    (two_ways name body y.notification).0 (sym (read_is r) ∙ (λ i. record { verdict = v i; notification = y.notification }))
+accepted_file : {n : Notification} {name body : List ℕ} → Read name body (Ok n) → Writes n name body
+accepted_file {n} {name} {body} r = (two_ways name body n).0 (sym (read_is r))
 
-module _ {n : Notification} {name body a b a' b' : List ℕ} {w : Written} (f : Writes n name body) (d : Wrote n a b w a' b')
+module _ {n : Notification} {name body a b a' b' : List ℕ} {w : Result FileLengths Refusal} (f : Writes n name body) (d : Wrote n a b w a' b')
     (name_fits : length name ≤ length a) (body_fits : length body ≤ length b) where
-  file_again : (w ≡ Lengths (length name) (length body)) × (a' ≡ name ++ drop (length name) a) × (b' ≡ body ++ drop (length body) b)
+  file_again : (w ≡ Ok (lengths (length name) (length body))) × (a' ≡ name ++ drop (length name) a) × (b' ≡ body ++ drop (length body) b)
   file_again =
       let left = wrote_is d in
-      let pass = passes_fit n name body f (length a) (length b) name_fits body_fits in
+      let passed = passes_fit n name body f (length a) (length b) name_fits body_fits in
       let answer = left.answers ∙ answers_fit n name body f (length a) (length b) name_fits body_fits in
-      (answer, put_whole _ pass _ a a' left.its_name name f.its_name, put_whole _ pass _ b b' left.its_body body f.its_body)
+      (answer, put_whole _ passed _ a a' left.its_name name f.its_name, put_whole _ passed _ b b' left.its_body body f.its_body)
 
 -- ---- it was refused
 
-both_kept : {n : Notification} {a b a' b' : List ℕ} {r : Refusal} → Wrote n a b (Refused r) a' b' → (a' ≡ a) × (b' ≡ b)
+both_kept : {n : Notification} {a b a' b' : List ℕ} {r : Refusal} → Wrote n a b (Err r) a' b' → (a' ≡ a) × (b' ≡ b)
 both_kept {n} {a} {b} {a'} {b'} {r} d =
     let left = wrote_is d in
     let kept = untouched n (length a) (length b) r (sym left.answers) in
@@ -153,6 +150,6 @@ round_trip =
     record {
       written_read = λ d r. read_is r ∙ (two_ways _ _ _).1 (file_there d);
       rest_kept = both_put;
-      read_written = λ r v d h k. file_again (accepted_file r v) d h k;
+      read_written = λ r d h k. file_again (accepted_file r) d h k;
       refused_kept = both_kept;
     }

@@ -23,10 +23,9 @@ use Rattle.lists.specs.Searches.{every}
 use Rattle.lists.proofs.Tests.{and_left, and_right}
 use Rattle.calendar.specs.Steps.{steps_of, last_sunday}
 use Rattle.notification.specs.Forms.{is_code, is_category, category_text, all_zero}
-use Rattle.notification.specs.Writing.{name_of, body_of, formed, ranged, written, Writes}
-use Rattle.notification.specs.Reading.{accepted}
+use Rattle.notification.specs.Writing.{name_of, body_of, formed, ranged, lengths, written, Writes}
+use Rattle.std.specs.Prelude.{Ok}
 use Rattle.notification.specs.declared.Notification.{Notification}
-use Rattle.notification.specs.declared.Written.TheVariants.{Lengths}
 use Rattle.notification.proofs.Lengths.{name_between, body_length}
 use Rattle.notification.proofs.TwoWays.{two_ways}
 use Rattle.notification.proofs.Buffers.{passes_fit, answers_fit}
@@ -117,18 +116,18 @@ name_after = name ++ drop (length name) name_room
 abbrev body_after : List ℕ
 body_after = body ++ drop (length body) body_room
 
-pub is_written : Wrote note name_room body_room (Lengths (length name) (length body)) name_after body_after
+pub is_written : Wrote note name_room body_room (Ok (lengths (length name) (length body))) name_after body_after
 unfolding written
 is_written =
-    let pass = passes_fit note name body can_be_written 57 1351 name_fits body_fits in
+    let passed = passes_fit note name body can_be_written 57 1351 name_fits body_fits in
     wrote no_lifetimes (note, (lent_mut name_room, (lent_mut body_room, tt))) _ (note, (lent_mut name_after, (lent_mut body_after, tt))) arguments_fit
     (λ asked. record {
       answers = sym (answers_fit note name body can_be_written 57 1351 name_fits body_fits);
-      its_name = rw pass;
-      its_body = rw pass;
+      its_name = rw passed;
+      its_body = rw passed;
     })
 
-pub is_read : Read (take (length name) name_after) (take (length body) body_after) (accepted note)
+pub is_read : Read (take (length name) name_after) (take (length body) body_after) (Ok note)
 is_read =
     rw (take_at name (drop (length name) name_room) (length name) refl, take_at body (drop (length body) body_room) (length body) refl)
     (read no_lifetimes (lent name, (lent body, tt)) _ (lent name, (lent body, tt)) (λ asked. sym ((two_ways name body note).1 can_be_written)))

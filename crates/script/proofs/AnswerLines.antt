@@ -1,8 +1,8 @@
 -- The pieces of an answer's line, put one after another.
 use mathlib.Core.Path.{◌≡◌, refl, sym, ap, ◌∙◌}
-use mathlib.Core.Bool.{Bool, true, false, ◌&&◌}
+use mathlib.Core.Bool.{Bool, true, false}
 use mathlib.Core.List.{List, [], ◌∷◌, ◌++◌, append_assoc}
-use Prim.Native.Nat.{ℕ, suc, ◌+◌, ◌*◌, ◌%◌, ◌<◌, ◌≤◌}
+use Prim.Native.Nat.{ℕ, suc, min, ◌+◌, ◌*◌, ◌%◌, ◌<◌, ◌≤◌}
 use native.Mathlib.Nat.{add-zero}
 use native.Mathlib.Numerals.{add-one}
 use native.Mathlib.Omega.{arith}
@@ -10,7 +10,7 @@ use lib.Dec.{eqb, ltb}
 use lib.ListN.{length, get_or, set, take}
 use lib.Seq.{take-suc, take_all, length-take-le}
 use borrow.Author.Tests.{ltb-true, ltb-false, eq-eqb, ne_eqb, le-leb, lt-leb}
-use Rattle.lists.proofs.Tests.{by_test, and_left, and_right, right_false}
+use Rattle.lists.proofs.Tests.{by_test}
 use Rattle.writer.specs.Placing.{Placed}
 use Rattle.writer.proofs.Placed.{placed_none, placed_length, placed_end, placed_join}
 use Rattle.answers.specs.declared.Said.{Said}
@@ -18,12 +18,6 @@ use Rattle.script.specs.Numbers.{decimal}
 use Rattle.script.specs.Lines.{comma}
 use Rattle.script.specs.Answers.{value_text, values_text, said_text, answer_line, line_room, answer_put, answer_end}
 use Rattle.script.proofs.Decimals.{word_end, decimal_few, decimal_most}
-
-pub word_placed : (l : List ℕ) (at a b : ℕ) → Placed l at (comma ∷ a ∷ b ∷ []) (set (set (set l at comma) (at + 1) a) (at + 2) b) (at + 3)
-word_placed l at a b =
-    let e : at + 1 ≡ suc at = omega arith in
-    let f : at + 2 ≡ suc (suc at) = omega arith in
-    record { holds = rw (e, f); follows = refl }
 
 -- ---- a value
 
@@ -54,49 +48,38 @@ values_end letter j (y ∷ xs) x =
     ap (λ s. comma ∷ s)
     (ap (λ s. value_text (eqb j letter) y ++ s) (values_end letter (suc j) xs x ∙ rw e) ∙ sym (append_assoc (value_text (eqb j letter) y) (values_text letter (suc j) xs) _))
 
-pub record Valued (before : List ℕ) (at letter count : ℕ) (values now : List ℕ) (next i : ℕ) : Type 0 where
-  pub three : length values ≡ 3
-  pub few : i ≤ 3
-  pub some : i ≤ count
+pub record Valued (before : List ℕ) (at letter : ℕ) (items now : List ℕ) (next i : ℕ) : Type 0 where
   pub room : next ≤ at + 11 * i
-  pub put : Placed before at (values_text letter 0 (take i values)) now next
+  pub put : Placed before at (values_text letter 0 (take i items)) now next
 
-pub valued_none : (before : List ℕ) (at letter count : ℕ) (values : List ℕ) → length values ≡ 3 → Valued before at letter count values before at 0
+pub valued_none : (before : List ℕ) (at letter : ℕ) (items : List ℕ) → Valued before at letter items before at 0
 unfolding values_text
-valued_none before at letter count values e =
-    record { three = e; few = omega arith; some = omega arith; room = omega arith; put = placed_none before at }
+valued_none before at letter items = record { room = omega arith; put = placed_none before at }
 
-pub valued_room : (before : List ℕ) (at letter count : ℕ) (values now : List ℕ) (next i : ℕ) → Valued before at letter count values now next i
-    → (ltb i count && ltb i 3) ≡ true → at + 33 ≤ length before → (i < 3) × (next + 11 ≤ length now)
-valued_room before at letter count values now next i v t h =
-    let b = ltb-true i 3 (and_right (ltb i count) (ltb i 3) t) in
-    (b, omega (arith, v.room, placed_length v.put))
+module _ {before : List ℕ} {at letter : ℕ} {items now : List ℕ} {next i : ℕ} (v : Valued before at letter items now next i) (few : length items ≤ 3) where
+  pub valued_room : i < length items → at + 33 ≤ length before → next + 11 ≤ length now
+  valued_room h k = omega (arith, v.room, placed_length v.put)
 
-pub valued_more : (before : List ℕ) (at letter count : ℕ) (values now : List ℕ) (next i : ℕ) (now' : List ℕ) (next' : ℕ) → Valued before at letter count values now next i
-    → (ltb i count && ltb i 3) ≡ true → Placed now next (comma ∷ value_text (eqb i letter) (get_or values i 0)) now' next' × (next' ≤ next + 11)
-    → Valued before at letter count values now' next' (i + 1)
-valued_more before at letter count values now next i now' next' v t p =
-    let a = ltb-true i count (and_left (ltb i count) (ltb i 3) t) in
-    let b = ltb-true i 3 (and_right (ltb i count) (ltb i 3) t) in
-    let three = v.three in
-    let r = v.room in
-    let q = p.1 in
-    let n = length-take-le i values (omega arith) in
-    let z : 0 + i ≡ i = omega arith in
-    let e : values_text letter 0 (take (i + 1) values) ≡ values_text letter 0 (take i values) ++ comma ∷ value_text (eqb i letter) (get_or values i 0) = rw (add-one i, take-suc values i 0 (omega arith)) (rw (n, z) at (values_end letter 0 (take i values) (get_or values i 0))) in
-    record { three = v.three; few = omega arith; some = omega arith; room = omega arith; put = rw e (placed_join v.put p.0) }
+  pub valued_more : {now' : List ℕ} {next' : ℕ} → i < length items → Placed now next (comma ∷ value_text (eqb i letter) (get_or items i 0)) now' next' × (next' ≤ next + 11)
+      → Valued before at letter items now' next' (i + 1)
+  valued_more h p =
+      let r = v.room in
+      let q = p.1 in
+      let n = length-take-le i items (omega arith) in
+      let z : 0 + i ≡ i = omega arith in
+      let e : values_text letter 0 (take (i + 1) items) ≡ values_text letter 0 (take i items) ++ comma ∷ value_text (eqb i letter) (get_or items i 0) = rw (add-one i, take-suc items i 0 h) (rw (n, z) at (values_end letter 0 (take i items) (get_or items i 0))) in
+      record { room = omega arith; put = rw e (placed_join v.put p.0) }
 
-pub valued_all : (before : List ℕ) (at letter count : ℕ) (values now : List ℕ) (next i : ℕ) → Valued before at letter count values now next i
-    → (ltb i count && ltb i 3) ≡ false → Placed before at (values_text letter 0 (take count values)) now next × (next ≤ at + 33)
-valued_all before at letter count values now next i v t =
-    let few = v.few in
-    let some = v.some in
-    let three = v.three in
-    let e : take count values ≡ take i values = by_test (ltb i count) (λ k. all (ltb-true i count k) (ltb-false i 3 (right_false (ltb i count) (ltb i 3) t k))) (λ k. let z : count ≡ i = omega (arith, ltb-false i count k) in rw z) in
-    (rw e v.put, omega (arith, v.room))
-  where
-    all : i < count → 3 ≤ i → take count values ≡ take i values
-    all h l = take_all count values (omega (arith, v.three)) ∙ sym (take_all i values (omega (arith, v.three)))
+  -- the first of three are all that are wanted
+  pub valued_all : (count : ℕ) (values : List ℕ) → length values ≡ 3 → items ≡ take (min count 3) values → i ≡ length items
+      → Placed before at (values_text letter 0 (take count values)) now next × (next ≤ at + 33)
+  valued_all count values three e n =
+      let a : take i items ≡ items = take_all i items (omega arith) in
+      let f : take (min count 3) values ≡ take count values =
+      by_test (ltb count 3)
+      (λ k. let m : min count 3 ≡ count = omega (arith, ltb-true count 3 k) in rw m refl)
+      (λ k. take_all (min count 3) values (omega (arith, ltb-false count 3 k)) ∙ sym (take_all count values (omega (arith, ltb-false count 3 k)))) in
+      (rw (← (a ∙ e ∙ f)) v.put, omega (arith, v.room))
 
 -- ---- the rest of the line
 

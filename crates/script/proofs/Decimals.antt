@@ -1,12 +1,12 @@
 -- The digits of a number: those of its tenth, and its last one. They are put from the last to the first.
-use mathlib.Core.Path.{◌≡◌, refl, sym, ap, ◌∙◌}
+use mathlib.Core.Path.{◌≡◌, refl, sym, ap, subst, ◌∙◌}
 use mathlib.Core.List.{List, [], ◌∷◌, ◌++◌}
 use Prim.Native.Nat.{ℕ, zero, suc, ◌+◌, ◌-◌, ◌/◌, ◌%◌, ◌^◌, ◌<◌, ◌≤◌}
 use native.Mathlib.Omega.{arith}
 use lib.Dec.{ltb}
-use lib.ListN.{length, get_or, set, take, drop, length-append, length-set}
-use lib.Seq.{sets, set_comm, drop-cons, get_or-take, get_or_at, take-take, take_at, drop-length, take-length}
-use borrow.Author.Tests.{lt-ltb, le-ltb}
+use lib.ListN.{length, get_or, set, take, drop, length-append}
+use lib.Seq.{sets, set_comm, drop-cons, get_or-take, get_or_at, take-take, take_at, drop-length, take-length, length-take-le}
+use borrow.Author.Tests.{ltb-true, ltb-false, lt-ltb, le-ltb}
 use Rattle.lists.proofs.Tests.{by_test}
 use Rattle.calendar.specs.Texts.{digit_of}
 use Rattle.writer.specs.Placing.{Placed}
@@ -88,68 +88,77 @@ set_sets [] l i j d h = refl
 set_sets (v ∷ vs) l i j d h =
     set_sets vs (set l i v) (suc i) j d (omega arith) ∙ ap (λ x. sets x (suc i) vs) (set_comm l i j v d (λ (e : i ≡ j). omega arith))
 
--- the digits of a number from the i-th on are put; those before it are the digits of what is left
-pub record Spelt (before : List ℕ) (at n i rest : ℕ) (now : List ℕ) : Type 0 where
-  pub left : decimal rest ≡ take i (decimal n)
-  pub many : length (decimal rest) ≡ i
+-- the last digit of a number
+last_digit : (n : ℕ) → n < word_end → get_or (decimal n) (length (decimal n) - 1) 0 ≡ digit_of n
+last_digit n h =
+    by_test (ltb n 10)
+    (λ t. let l = ltb-true n 10 t in let e : n % 10 ≡ n = omega arith in rw (decimal_one n l, e) refl)
+    (λ t.
+    let l = ltb-false n 10 t in
+    let k : length (decimal (n / 10)) ≡ length (decimal n) - 1 = omega (arith, length_more n l h) in
+    ap (λ s. get_or s (length (decimal n) - 1) 0) (decimal_more n l h) ∙ get_or_at (decimal (n / 10)) (digit_of n) [] 0 (length (decimal n) - 1) k)
+
+-- the digits of a number from the i-th on are put, from a place on; those before it are the digits of what is left
+pub record Spelt (before : List ℕ) (n i rest place : ℕ) (now : List ℕ) : Type 0 where
+  pub left : 1 ≤ i → decimal rest ≡ take i (decimal n)
   pub most : i ≤ length (decimal n)
   pub small : rest < word_end
-  pub same_length : length now ≡ length before
-  pub holds : now ≡ sets before (at + i) (drop i (decimal n))
+  pub holds : now ≡ sets before place (drop i (decimal n))
 
-pub spelt_none : (before : List ℕ) (at n i : ℕ) → i ≡ length (decimal n) → n < word_end → Spelt before at n i n before
-spelt_none before at n i e h =
-    record {
-      left = rw e (sym (take-length (decimal n)));
-      many = sym e;
+pub spelt_none : (before : List ℕ) (at n : ℕ) {count : ℕ} → count ≡ length (decimal n) → n < word_end → Spelt before n (at + count - at) n (at + count) before
+spelt_none before at n {count} e h =
+    let i : at + count - at ≡ length (decimal n) = omega arith in
+    rw i
+    (record {
+      left = λ k. sym (take-length (decimal n));
       most = omega arith;
       small = h;
-      same_length = refl;
-      holds = rw (e, drop-length (decimal n));
-    }
+      holds = rw (drop-length (decimal n));
+    })
 
 -- one digit more in front of those that are put
-in_front : (before : List ℕ) (at n j d : ℕ) (now : List ℕ) → suc j ≤ length (decimal n) → get_or (decimal n) j 0 ≡ d
-    → now ≡ sets before (at + suc j) (drop (suc j) (decimal n)) → set now (at + j) d ≡ sets before (at + j) (drop j (decimal n))
-in_front before at n j d now h e k =
-    let l : at + suc j ≡ suc (at + j) = omega arith in
-    rw (drop-cons (decimal n) j 0 h, e, k, l) (set_sets (drop (suc j) (decimal n)) before (suc (at + j)) (at + j) d (omega arith))
+in_front : (before : List ℕ) (n place j d : ℕ) (now : List ℕ) → suc j ≤ length (decimal n) → get_or (decimal n) j 0 ≡ d
+    → now ≡ sets before (suc place) (drop (suc j) (decimal n)) → set now place d ≡ sets before place (drop j (decimal n))
+in_front before n place j d now h e k =
+    rw (drop-cons (decimal n) j 0 h, e, k) (set_sets (drop (suc j) (decimal n)) before (suc place) place d (omega arith))
 
-module _ (before : List ℕ) (at n i rest : ℕ) (now : List ℕ) (p : Spelt before at n i rest now) where
-  pub spelt_some : 10 ≤ rest → 2 ≤ i
-  spelt_some h =
-      let m = length_more rest h p.small in
-      omega (arith, p.many, decimal_some (rest / 10))
-
-  pub spelt_more : 10 ≤ rest → Spelt before at n (i - 1) (rest / 10) (set now (at + (i - 1)) (48 + rest % 10))
-  spelt_more h =
-      let a = p.many in
-      let b = p.most in
-      let c = p.small in
-      let m = length_more rest h c in
-      let j : suc (i - 1) ≡ i = omega arith in
-      let l : length (decimal (rest / 10)) ≡ i - 1 = omega arith in
-      let e = sym p.left ∙ decimal_more rest h c in
+module _ {before : List ℕ} {n rest : ℕ} {now : List ℕ} where
+  one_more : (j place : ℕ) → Spelt before n (suc j) rest (suc place) now → Spelt before n j (rest / 10) place (set now place (48 + rest % 10))
+  one_more j place p =
+      let small = p.small in
+      let most = p.most in
+      let left = p.left (omega arith) in
+      let many : length (decimal rest) ≡ suc j = ap length left ∙ length-take-le (suc j) (decimal n) most in
+      let m : length (decimal rest) - 1 ≡ j = omega (arith, many) in
+      let last : get_or (decimal n) j 0 ≡ 48 + rest % 10 =
+      sym (get_or-take (suc j) (decimal n) j 0 (omega arith)) ∙ ap (λ s. get_or s j 0) (sym left) ∙ ap (λ k. get_or (decimal rest) k 0) (sym m) ∙ last_digit rest small in
       record {
-        left = sym (sym (take-take (i - 1) i (decimal n) (omega arith)) ∙ ap (take (i - 1)) e ∙ take_at (decimal (rest / 10)) (digit_of rest ∷ []) (i - 1) l);
-        many = l;
+        left = λ k. fewer j p.most many small k left;
         most = omega arith;
         small = omega arith;
-        same_length = length-set now (at + (i - 1)) (48 + rest % 10) ∙ p.same_length;
-        holds =
-            in_front before at n (i - 1) (48 + rest % 10) now (omega arith)
-            (sym (get_or-take i (decimal n) (i - 1) 0 (omega arith)) ∙ ap (λ s. get_or s (i - 1) 0) e ∙ get_or_at (decimal (rest / 10)) (digit_of rest) [] 0 (i - 1) l)
-            (rw j p.holds);
+        holds = in_front before n place j (48 + rest % 10) now most last p.holds;
       }
+    where
+      fewer : (j : ℕ) → suc j ≤ length (decimal n) → length (decimal rest) ≡ suc j → rest < word_end → 1 ≤ j → decimal rest ≡ take (suc j) (decimal n)
+          → decimal (rest / 10) ≡ take j (decimal n)
+      fewer j most many small k left =
+          by_test (ltb rest 10)
+          (λ t. absurd (omega (arith, many, length_one rest (ltb-true rest 10 t))))
+          (λ t.
+          let l = ltb-false rest 10 t in
+          let m : length (decimal (rest / 10)) ≡ j = omega (arith, length_more rest l small) in
+          let e = sym left ∙ decimal_more rest l small in
+          sym (sym (take-take j (suc j) (decimal n) (omega arith)) ∙ ap (take j) e ∙ take_at (decimal (rest / 10)) (digit_of rest ∷ []) j m))
 
-  pub spelt_all : (count : ℕ) → count ≡ length (decimal n) → rest < 10 → Placed before at (decimal n) (set now at (48 + rest)) (at + count)
-  spelt_all count q h =
-      let a = p.many in
-      let b = p.most in
-      let o = length_one rest h in
-      let j : i ≡ 1 = omega arith in
-      let z : at + 0 ≡ at = omega arith in
-      let e : take 1 (decimal n) ≡ (48 + rest) ∷ [] = sym (rw j at p.left) ∙ decimal_one rest h in
-      let g : get_or (decimal n) 0 0 ≡ 48 + rest = sym (get_or-take 1 (decimal n) 0 0 (omega arith)) ∙ ap (λ s. get_or s 0 0) e in
-      let k = in_front before at n 0 (48 + rest) now (omega arith) g (rw j at p.holds) in
-      record { holds = rw z at k; follows = ap (λ m. at + m) q }
+  pub spelt_more : {at place : ℕ} → at < place → Spelt before n (place - at) rest place now
+      → Spelt before n (place - 1 - at) (rest / 10) (place - 1) (set now (place - 1) (48 + rest % 10))
+  spelt_more {at} {place} h p =
+      let i : place - at ≡ suc (place - 1 - at) = omega arith in
+      let q : place ≡ suc (place - 1) = omega arith in
+      let spelt : Spelt before n (suc (place - 1 - at)) rest (suc (place - 1)) now = subst (λ k. Spelt before n k rest (suc (place - 1)) now) i (subst (λ k. Spelt before n (place - at) rest k now) q p) in
+      one_more (place - 1 - at) (place - 1) spelt
+
+  pub spelt_all : {at place count : ℕ} → place ≡ at → count ≡ length (decimal n) → Spelt before n (place - at) rest place now → Placed before at (decimal n) now (at + count)
+  spelt_all {at} {place} {count} e q p =
+      let z : place - at ≡ 0 = omega arith in
+      record { holds = rw (z, e) at p.holds; follows = ap (λ m. at + m) q }

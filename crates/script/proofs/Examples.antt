@@ -10,9 +10,9 @@ use Rattle.refusals.specs.declared.Refusal.TheVariants.{Input, State}
 use Rattle.refusals.specs.declared.InputRefusal.TheVariants.{Labels}
 use Rattle.refusals.specs.declared.StateRefusal.TheVariants.{Back}
 use Rattle.ledger.specs.Call as Call
-use Rattle.ledger.specs.declared.Answer.TheVariants.{Moved, Held, Filed, Refused}
-use Rattle.ledger.specs.declared.Engaged.TheVariants.{Power}
-use Rattle.answers.specs.Values.{said_of, said_engaged, said_refused}
+use Rattle.std.specs.Prelude.{Ok, Err}
+use Rattle.ledger.specs.declared.Answer.TheVariants.{Moved, Held, Filed}
+use Rattle.answers.specs.Values.{said_of, said_number, said_refused}
 use Rattle.script.specs.Numbers.{is_number, value_from, decimal_in}
 use Rattle.script.specs.Lines.{calls, file_of, engagement, record_of, unknown, fields, advance_line, enrol_line, category_line, load_line, file_line, engagement_line, record_line, by_letter, line_of}
 use Rattle.script.specs.Answers.{value_text, values_text, said_text, answer_line}
@@ -46,17 +46,17 @@ pub record Sample : Type 0 where
   -- `Z`
   pub line_7 : line_of (90 ∷ []) ≡ unknown
   -- `1,ok`
-  pub answer_1 : answer_line 1 (said_of Moved) ≡ 49 ∷ 44 ∷ 111 ∷ 107 ∷ 10 ∷ []
+  pub answer_1 : answer_line 1 (said_of (Ok Moved)) ≡ 49 ∷ 44 ∷ 111 ∷ 107 ∷ 10 ∷ []
   -- `2,ok,1`
-  pub answer_2 : answer_line 2 (said_of (Held 1)) ≡ 50 ∷ 44 ∷ 111 ∷ 107 ∷ 44 ∷ 49 ∷ 10 ∷ []
+  pub answer_2 : answer_line 2 (said_of (Ok (Held 1))) ≡ 50 ∷ 44 ∷ 111 ∷ 107 ∷ 44 ∷ 49 ∷ 10 ∷ []
   -- `3,ok,2`
-  pub answer_3 : answer_line 3 (said_of (Held 2)) ≡ 51 ∷ 44 ∷ 111 ∷ 107 ∷ 44 ∷ 50 ∷ 10 ∷ []
+  pub answer_3 : answer_line 3 (said_of (Ok (Held 2))) ≡ 51 ∷ 44 ∷ 111 ∷ 107 ∷ 44 ∷ 50 ∷ 10 ∷ []
   -- `4,ok,1`
-  pub answer_4 : answer_line 4 (said_of (Held 1)) ≡ 52 ∷ 44 ∷ 111 ∷ 107 ∷ 44 ∷ 49 ∷ 10 ∷ []
+  pub answer_4 : answer_line 4 (said_of (Ok (Held 1))) ≡ 52 ∷ 44 ∷ 111 ∷ 107 ∷ 44 ∷ 49 ∷ 10 ∷ []
   -- `5,no,38,0`
-  pub answer_5 : answer_line 5 (said_of (Refused (State Back 0))) ≡ 53 ∷ 44 ∷ 110 ∷ 111 ∷ 44 ∷ 51 ∷ 56 ∷ 44 ∷ 48 ∷ 10 ∷ []
+  pub answer_5 : answer_line 5 (said_of (Err (State Back 0))) ≡ 53 ∷ 44 ∷ 110 ∷ 111 ∷ 44 ∷ 51 ∷ 56 ∷ 44 ∷ 48 ∷ 10 ∷ []
   -- `6,ok,0`
-  pub answer_6 : answer_line 6 (said_engaged (Power 0)) ≡ 54 ∷ 44 ∷ 111 ∷ 107 ∷ 44 ∷ 48 ∷ 10 ∷ []
+  pub answer_6 : answer_line 6 (said_number (Ok 0)) ≡ 54 ∷ 44 ∷ 111 ∷ 107 ∷ 44 ∷ 48 ∷ 10 ∷ []
   -- `7,no,11,0`
   pub answer_7 : answer_line 7 (said_refused 11) ≡ 55 ∷ 44 ∷ 110 ∷ 111 ∷ 44 ∷ 49 ∷ 49 ∷ 44 ∷ 48 ∷ 10 ∷ []
 
@@ -114,11 +114,11 @@ pub record Edge : Type 0 where
   pub category_of_510 : line_of (67 ∷ 44 ∷ replicate 510 49) ≡ calls (Call.enrol_category (replicate 510 49))
   pub bytes_513 : line_of (67 ∷ 44 ∷ replicate 511 49) ≡ unknown
   -- `10,ok,256,V,33`
-  pub answer_filed : answer_line 10 (said_of (Filed 256 86 33)) ≡ 49 ∷ 48 ∷ 44 ∷ 111 ∷ 107 ∷ 44 ∷ 50 ∷ 53 ∷ 54 ∷ 44 ∷ 86 ∷ 44 ∷ 51 ∷ 51 ∷ 10 ∷ []
+  pub answer_filed : answer_line 10 (said_of (Ok (Filed 256 86 33))) ≡ 49 ∷ 48 ∷ 44 ∷ 111 ∷ 107 ∷ 44 ∷ 50 ∷ 53 ∷ 54 ∷ 44 ∷ 86 ∷ 44 ∷ 51 ∷ 51 ∷ 10 ∷ []
   -- `18446744073709551615,no,6,50`
-  pub answer_place : answer_line 18446744073709551615 (said_of (Refused (Input Labels 50))) ≡ 49 ∷ 56 ∷ 52 ∷ 52 ∷ 54 ∷ 55 ∷ 52 ∷ 52 ∷ 48 ∷ 55 ∷ 51 ∷ 55 ∷ 48 ∷ 57 ∷ 53 ∷ 53 ∷ 49 ∷ 54 ∷ 49 ∷ 53 ∷ 44 ∷ 110 ∷ 111 ∷ 44 ∷ 54 ∷ 44 ∷ 53 ∷ 48 ∷ 10 ∷ []
+  pub answer_place : answer_line 18446744073709551615 (said_of (Err (Input Labels 50))) ≡ 49 ∷ 56 ∷ 52 ∷ 52 ∷ 54 ∷ 55 ∷ 52 ∷ 52 ∷ 48 ∷ 55 ∷ 51 ∷ 55 ∷ 48 ∷ 57 ∷ 53 ∷ 53 ∷ 49 ∷ 54 ∷ 49 ∷ 53 ∷ 44 ∷ 110 ∷ 111 ∷ 44 ∷ 54 ∷ 44 ∷ 53 ∷ 48 ∷ 10 ∷ []
   -- `0,ok,4294967295`
-  pub answer_largest : answer_line 0 (said_engaged (Power 4294967295)) ≡ 48 ∷ 44 ∷ 111 ∷ 107 ∷ 44 ∷ 52 ∷ 50 ∷ 57 ∷ 52 ∷ 57 ∷ 54 ∷ 55 ∷ 50 ∷ 57 ∷ 53 ∷ 10 ∷ []
+  pub answer_largest : answer_line 0 (said_number (Ok 4294967295)) ≡ 48 ∷ 44 ∷ 111 ∷ 107 ∷ 44 ∷ 52 ∷ 50 ∷ 57 ∷ 52 ∷ 57 ∷ 54 ∷ 55 ∷ 50 ∷ 57 ∷ 53 ∷ 10 ∷ []
 
 pub sample : Sample
 unfolding eic category sevens number valid month_length leap_days before_year before_month pair_of day_of is_number value_from decimal_in fields advance_line enrol_line category_line load_line file_line engagement_line record_line by_letter line_of value_text values_text said_text answer_line

@@ -4,10 +4,8 @@ use mathlib.Core.Bool.{true, false}
 use mathlib.Core.List.{List}
 use Prim.Native.Nat.{ℕ, ◌+◌, ◌<◌, ◌≤◌}
 use native.Mathlib.Omega.{arith}
-use lib.ListN.{length, drop, length-drop}
-use Rattle.lists.specs.Searches.{some, is_byte, byte_from}
-use Rattle.lists.proofs.Parts.{rest_all}
-use Rattle.lists.proofs.Places.{place_some}
+use lib.ListN.{length}
+use Rattle.lists.specs.Searches.{some, is_byte}
 use Rattle.lists.proofs.ByteSearch.{byte_nowhere}
 use Rattle.script.specs.Lines.{file_of, comma, file_line}
 use Rattle.script.specs.Fields.{fields_from}
@@ -16,7 +14,7 @@ use Rattle.script.specs.Walking.{FieldEnd}
 use Rattle.script.specs.declared.reading.Kind.TheVariants.{Files}
 use Rattle.script.proofs.Parting.{field_ends, field_past}
 use Rattle.script.proofs.FieldEnds.{end_one, end_two}
-use Rattle.script.proofs.LineKinds.{no_line, Reads, read_as_lem, unknown_as, some_after, none_after}
+use Rattle.script.proofs.LineKinds.{no_line, Reads, read_as_lem, unknown_as, some_after, none_after, comma_inside}
 
 module _ (line : List ℕ) (a : ℕ) (pa : FieldEnd line start a) where
   pub file_short : length line ≤ a → Reads line no_line (file_line (fields_from line start))
@@ -34,16 +32,8 @@ module _ (line : List ℕ) (a : ℕ) (pa : FieldEnd line start a) where
         read_as_lem line {a = file_of (cut line start a) (cut line (a + 1) b)} {b = file_line (fields_from line start)} (rw (end_one pa, end_two pa pb) refl)
         (rw (pa.parts, pb.parts, none_after line b h))
 
-  comma_inside : a < length line → some (is_byte comma) (cut line (a + 1) (length line)) ≡ true → byte_from comma line (a + 1) < length line
-  unfolding byte_from
-  comma_inside i e =
-      let d : some (is_byte comma) (drop (a + 1) line) ≡ true = rw (rest_all (a + 1) line) at e in
-      let p = place_some (is_byte comma) (drop (a + 1) line) d in
-      let l = length-drop (a + 1) line in
-      omega arith
-
   pub file_cut : a < length line → some (is_byte comma) (cut line (a + 1) (length line)) ≡ true → Reads line no_line (file_line (fields_from line start))
-  file_cut i e = file_long _ (field_ends line (omega arith) refl) (comma_inside i e)
+  file_cut i e = file_long _ (field_ends line (omega arith) refl) (comma_inside line (omega arith) e)
 
   pub file_whole : a < length line → some (is_byte comma) (cut line (a + 1) (length line)) ≡ false
       → Reads line (plain Files a (length line) 0 0) (file_line (fields_from line start))

@@ -4,7 +4,6 @@ pub mod Parting
 pub mod Numerals
 pub mod Spelling
 pub mod Powers
-pub mod Cuts
 pub mod FieldEnds
 pub mod LineKinds
 pub mod FileLines

@@ -1,35 +1,20 @@
 -- A line that asks for a load: its powers are numbers, as many as were counted.
 use mathlib.Core.Path.{◌≡◌, refl, sym, ◌∙◌}
-use mathlib.Core.Bool.{Bool, true, false, cond, ◌&&◌}
-use mathlib.Core.List.{List, ◌∷◌, map}
+use mathlib.Core.Bool.{true, false, ◌&&◌}
+use mathlib.Core.List.{List, map}
 use Prim.Native.Nat.{ℕ, ◌+◌, ◌<◌, ◌≤◌}
-use native.Mathlib.Omega.{arith}
-use lib.Dec.{ltb}
 use lib.ListN.{length, length-map}
-use borrow.Author.Tests.{ltb-true, lt-ltb}
 use Rattle.lists.specs.Searches.{every}
-use Rattle.lists.proofs.Tests.{and_left, and_right}
-use Rattle.calendar.specs.Dates.{day_count}
 use Rattle.ledger.specs.Call as Call
-use Rattle.script.specs.Numbers.{number_end, is_number, value_of, day_in}
-use Rattle.script.specs.Lines.{calls, known, load_line}
-use Rattle.script.specs.Fields.{fields_from, number_in}
+use Rattle.script.specs.Numbers.{is_number, value_of, is_day}
+use Rattle.script.specs.Lines.{calls, load_line}
+use Rattle.script.specs.Fields.{fields_from}
 use Rattle.script.specs.Spans.{cut, start}
-use Rattle.script.specs.Walking.{FieldEnd, count_in}
+use Rattle.script.specs.Walking.{FieldEnd, IsDay, IsValue}
 use Rattle.script.specs.declared.reading.CallKind.TheVariants.{Load}
 use Rattle.script.specs.declared.reading.Kind.TheVariants.{Calls}
 use Rattle.script.proofs.FieldEnds.{end_one, end_two, end_four}
-use Rattle.script.proofs.Powers.{count_some}
-use Rattle.script.proofs.LineKinds.{no_line, Reads, read_as_lem, unknown_as, some_after, none_after, date_and_number, number_passed}
-
--- one field or more are numbers where they were counted as some
-count_test : (x : List ℕ) (xs : List (List ℕ)) → ltb 0 (count_in (x ∷ xs)) ≡ every is_number (x ∷ xs)
-unfolding count_in
-count_test x xs = go (every is_number (x ∷ xs))
-  where
-    go : (t : Bool) → ltb 0 (cond t (length (x ∷ xs)) 0) ≡ t
-    go true = lt-ltb 0 (length (x ∷ xs)) (omega arith)
-    go false = refl
+use Rattle.script.proofs.LineKinds.{no_line, Reads, read_as_lem, unknown_as, some_after, none_after, both_good, first_bad, second_bad}
 
 module _ (line : List ℕ) (a : ℕ) (pa : FieldEnd line start a) where
   pub load_one : length line ≤ a → Reads line no_line (load_line (fields_from line start))
@@ -51,31 +36,32 @@ module _ (line : List ℕ) (a : ℕ) (pa : FieldEnd line start a) where
         unfolding load_line
         load_four h = unknown_as line {a = load_line (fields_from line start)} (rw (pa.parts, pb.parts, pc.parts, pd.parts, none_after line d h))
 
-        module _ (h : d < length line) (day v n : ℕ) (p : day ≡ day_in (cut line (b + 1) c)) (q : v ≡ number_in (cut line (c + 1) d)) (r : n ≡ count_in (fields_from line (d + 1))) where
-          powers_test : every is_number (fields_from line (d + 1)) ≡ ltb 0 n
-          powers_test = rw (r, some_after line d h) (sym (count_test _ _))
-
-          asks : load_line (fields_from line start) ≡ known (ltb day day_count && ltb v number_end && ltb 0 n) (calls (Call.load (cut line start a) (cut line (a + 1) b) day (value_of (cut line (c + 1) d)) (map value_of (fields_from line (d + 1)))))
+        module _ (h : d < length line) where
+          load_bad : (is_day (cut line (b + 1) c) && is_number (cut line (c + 1) d) && every is_number (fields_from line (d + 1))) ≡ false
+              → Reads line no_line (load_line (fields_from line start))
           unfolding load_line
-          asks =
-              let t = date_and_number (cut line (b + 1) c) (cut line (c + 1) d) day v p q in
-              rw (← t, ← powers_test, p, pa.parts, pb.parts, pc.parts, pd.parts, some_after line d h)
+          load_bad k =
+              let more = some_after line d h in
+              unknown_as line {a = load_line (fields_from line start)} (rw (pa.parts, pb.parts, pc.parts, pd.parts, more, (rw more at k)))
 
-          pub load_bad : (ltb day day_count && ltb v number_end && ltb 0 n) ≡ false → Reads line no_line (load_line (fields_from line start))
-          load_bad t = unknown_as line {a = load_line (fields_from line start)} (sym (asks ∙ rw t))
+          pub load_undated : is_day (cut line (b + 1) c) ≡ false → Reads line no_line (load_line (fields_from line start))
+          load_undated e = load_bad (first_bad _ (first_bad _ e))
 
-          load_numbers : (ltb day day_count && ltb v number_end && ltb 0 n) ≡ true → (every is_number (fields_from line (d + 1)) ≡ true) × (n ≡ length (fields_from line (d + 1)))
-          load_numbers t =
-              let k = ltb-true 0 n (and_right (ltb day day_count && ltb v number_end) (ltb 0 n) t) in
-              let s = count_some (fields_from line (d + 1)) (rw (← r) k) in
-              (s.0, r ∙ s.1)
+          pub load_unnumbered : is_day (cut line (b + 1) c) ≡ true → is_number (cut line (c + 1) d) ≡ false → Reads line no_line (load_line (fields_from line start))
+          load_unnumbered e f = load_bad (first_bad _ (second_bad e f))
 
-          pub load_good : (ltb day day_count && ltb v number_end && ltb 0 n) ≡ true
+          pub load_powerless : is_day (cut line (b + 1) c) ≡ true → is_number (cut line (c + 1) d) ≡ true → every is_number (fields_from line (d + 1)) ≡ false
+              → Reads line no_line (load_line (fields_from line start))
+          load_powerless e f g = load_bad (second_bad (both_good e f) g)
+
+          pub load_good : {day v n : ℕ} → IsDay (cut line (b + 1) c) day → IsValue (cut line (c + 1) d) v
+              → every is_number (fields_from line (d + 1)) ≡ true → n ≡ length (fields_from line (d + 1))
               → Reads line (record { kind = Calls Load; first = a; second = b; day = day; number = v; from = d + 1; count = n }) (load_line (fields_from line start))
-          load_good t =
-              let s = load_numbers t in
+          unfolding load_line
+          load_good {day} {v} {n} p q e f =
+              let more = some_after line d h in
+              let k = both_good (both_good p.0 q.0) e in
               let powers = map value_of (fields_from line (d + 1)) in
-              let m : length powers ≡ n = length-map (fields_from line (d + 1)) value_of ∙ sym s.1 in
-              let f = number_passed (cut line (c + 1) d) v q (and_right (ltb day day_count) (ltb v number_end) (and_left (ltb day day_count && ltb v number_end) (ltb 0 n) t)) in
+              let m : length powers ≡ n = length-map (fields_from line (d + 1)) value_of ∙ sym f in
               read_as_lem line {a = calls (Call.load (cut line start a) (cut line (a + 1) b) day v powers)} {b = load_line (fields_from line start)} (rw (end_one pa, end_two pa pb, end_four pa pb pc pd, m) refl)
-              (sym (asks ∙ rw (t, f)))
+              (rw (pa.parts, pb.parts, pc.parts, pd.parts, more, (rw more at k), p.1, q.1))

@@ -1,26 +1,26 @@
 -- A text is a number where its length is right, no zero is needless, and each byte is a digit; its value is taken digit by digit.
-use mathlib.Core.Path.{◌≡◌, refl, sym, ◌∙◌}
+use mathlib.Core.Path.{◌≡◌, refl, sym, ap, ◌∙◌}
 use mathlib.Core.Bool.{Bool, true, false, not, ◌&&◌, ◌||◌}
 use mathlib.Core.List.{List, [], ◌∷◌, ◌++◌}
 use Prim.Native.Nat.{ℕ, suc, ◌+◌, ◌-◌, ◌*◌, ◌^◌, ◌<◌, ◌≤◌}
-use native.Mathlib.Nat.{add-zero, pow-le-pow_right}
+use native.Mathlib.Nat.{pow-le-pow_right}
 use native.Mathlib.Numerals.{add-one}
 use native.Mathlib.Omega.{arith}
 use lib.Dec.{eqb, ltb, leb}
 use lib.ListN.{length, get_or, drop, length-append, get_or-append}
 use lib.Seq.{drop-cons, drop-length}
-use borrow.Author.Tests.{leb-true, lt-ltb, le-leb, lt-leb, ne_eqb}
+use borrow.Author.Tests.{ltb-true, ltb-false, leb-true, le-leb, lt-leb, ne_eqb}
+use Rattle.std.specs.Prelude.{Option, Some, None, unwrap_or}
+use Rattle.lists.specs.Digits.{digit_value}
 use Rattle.lists.specs.Searches.{every}
+use Rattle.lists.proofs.Digits.{value_from_lem}
 use Rattle.lists.proofs.Tests.{by_test, and_left, and_right}
 use Rattle.calendar.specs.Texts.{digit}
 use Rattle.script.specs.Numbers.{most_digits, number_end, needed, is_number, value_from, value_of}
 use Rattle.script.specs.Fields.{number_in}
+use Rattle.script.specs.Walking.{IsValue, ValueRead}
 
 -- ---- no number
-
-pub is_none : (s : List ℕ) → is_number s ≡ false → number_end ≡ number_in s
-unfolding number_in
-is_none s e = rw e
 
 pub empty_none : (s : List ℕ) → length s ≡ 0 → is_number s ≡ false
 unfolding is_number
@@ -75,56 +75,58 @@ pub sofar_none : (s : List ℕ) → Sofar s 0 0
 sofar_none s = record { few = omega arith; small = omega arith; decides = refl; value = refl }
 
 module _ (s : List ℕ) (i v : ℕ) (h : i < length s) (p : Sofar s i v) where
-  pub sofar_below : get_or s i 0 < 48 → number_end ≡ number_in s
-  sofar_below l =
-      is_none s (other_none s (sym p.decides ∙ rw (drop-cons s i 0 h, lt-leb 48 (get_or s i 0) l)))
+  pub sofar_other : digit (get_or s i 0) ≡ false → is_number s ≡ false
+  sofar_other l = other_none s (sym p.decides ∙ rw (drop-cons s i 0 h, l))
 
-  pub sofar_above : 57 < get_or s i 0 → number_end ≡ number_in s
-  sofar_above l =
-      is_none s (other_none s (sym p.decides ∙ rw (drop-cons s i 0 h, le-leb 48 (get_or s i 0) (omega arith), lt-leb (get_or s i 0) 57 l)))
-
-  pub sofar_more : 48 ≤ get_or s i 0 → get_or s i 0 ≤ 57 → Sofar s (i + 1) (v * 10 + (get_or s i 0 - 48))
+  pub sofar_more : {x : ℕ} → x ≤ 9 → x + 48 ≡ get_or s i 0 → Sofar s (i + 1) (v * 10 + x)
   unfolding value_from
-  sofar_more k l =
-      let d : digit (get_or s i 0) ≡ true = rw (le-leb 48 (get_or s i 0) k, le-leb (get_or s i 0) 57 l) in
+  sofar_more {x} k q =
       let e = drop-cons s i 0 h in
+      let z : get_or s i 0 - 48 ≡ x = omega arith in
       record {
         few = omega arith;
         small = rw (add-one i) (omega (arith, p.small));
-        decides = rw (add-one i) ((rw (e, le-leb 48 (get_or s i 0) k, le-leb (get_or s i 0) 57 l) at p.decides));
-        value = rw (add-one i) ((rw e at p.value));
+        decides = rw (add-one i) ((rw (e, le-leb 48 (get_or s i 0) (omega arith), le-leb (get_or s i 0) 57 (omega arith)) at p.decides));
+        value = rw (add-one i) (ap (λ (k : ℕ). value_from (v * 10 + k) (drop (suc i) s)) (sym z) ∙ (rw e at p.value));
       }
+
+-- a byte that stands for more than 9 is no digit
+pub no_digit : {x : ℕ} (b : ℕ) → x ≡ digit_value b → 9 < x → digit b ≡ false
+unfolding digit_value
+no_digit b e h =
+    by_test (ltb b 48)
+    (λ t. rw (lt-leb 48 b (ltb-true b 48 t)))
+    (λ t.
+    let l = ltb-false b 48 t in
+    let k : 57 < b = omega (arith, e, value_from_lem b l) in
+    rw (le-leb 48 b l, lt-leb b 57 k))
 
 pub sofar_room : (s : List ℕ) (i v : ℕ) → i < length s → length s ≤ most_digits → Sofar s i v → v < 10000
 sofar_room s i v k h p =
     let l : 10 ^ i ≤ 10 ^ 4 = pow-le-pow_right {n = 10} (omega arith) {i = i} {j = 4} (omega arith) in
     omega (arith, p.small)
 
-pub sofar_all : (s : List ℕ) (i v : ℕ) → (length s ≡ 0 → ⊥) → length s ≤ most_digits → zero_first s ≡ false → length s ≤ i → Sofar s i v → v ≡ number_in s
-unfolding is_number number_in value_from
+pub sofar_all : (s : List ℕ) (i v : ℕ) → (length s ≡ 0 → ⊥) → length s ≤ most_digits → zero_first s ≡ false → length s ≤ i → Sofar s i v → IsValue s v
+unfolding is_number value_from
 sofar_all s i v some most t all p =
     let good = needful (eqb (length s) 1) (eqb (get_or s 0 0) 48) t in
     let few = p.few in
     let n : i ≡ length s = omega arith in
     let d = rw (n, drop-length s) at p.decides in
     let e = rw (n, drop-length s) at p.value in
-    rw (le-leb 1 (length s) (omega arith), le-leb (length s) most_digits most, good, ← d) e
+    (rw (le-leb 1 (length s) (omega arith), le-leb (length s) most_digits most, good, ← d) refl, e)
 
--- ---- what the value of a text says of it
+-- ---- what stands for a text
 
 pub number_value : (s : List ℕ) → is_number s ≡ true → number_in s ≡ value_of s
 unfolding number_in
 number_value s e = rw e
 
-value_few : (s : List ℕ) (v k : ℕ) → every digit s ≡ true → v < 10 ^ k → value_from v s < 10 ^ (k + length s)
-unfolding value_from
-value_few [] v k e h = rw add-zero h
-value_few (b ∷ s) v k e h =
-    let d = and_left (digit b) (every digit s) e in
-    let l : b ≤ 57 = leb-true b 57 (and_right (leb 48 b) (leb b 57) d) in
-    let m : v * 10 + (b - 48) < 10 ^ suc k = omega arith in
-    let n : suc k + length s ≡ k + suc (length s) = omega arith in
-    rw (← n) (value_few s (v * 10 + (b - 48)) (suc k) (and_right (digit b) (every digit s) e) m)
+-- the value of a number, and one past the largest where a text is none
+pub value_or_end : (s : List ℕ) (found : Option ℕ) → ValueRead s found → unwrap_or found number_end ≡ number_in s
+unfolding number_in
+value_or_end s None e = rw e
+value_or_end s (Some v) p = p.1 ∙ sym (number_value s p.0)
 
 pub number_parts : (s : List ℕ) → is_number s ≡ true → (1 ≤ length s) × (length s ≤ most_digits) × (every digit s ≡ true)
 unfolding is_number
@@ -133,24 +135,6 @@ number_parts s e =
     let b = leb (length s) most_digits in
     let f = and_left (a && b) (needed s) (and_left (a && b && needed s) (every digit s) e) in
     (leb-true 1 (length s) (and_left a b f), leb-true (length s) most_digits (and_right a b f), and_right (a && b && needed s) (every digit s) e)
-
-pub number_small : (s : List ℕ) → is_number s ≡ true → number_in s < number_end
-number_small s e =
-    let p = number_parts s e in
-    let few = p.1 in
-    let v : value_of s < 10 ^ (0 + length s) = value_few s 0 0 p.2 (omega arith) in
-    let l : 10 ^ (0 + length s) ≤ 10 ^ most_digits = pow-le-pow_right {n = 10} (omega arith) {i = 0 + length s} {j = most_digits} (omega arith) in
-    omega (arith, number_value s e)
-
-none_end : (s : List ℕ) → is_number s ≡ false → number_in s ≡ number_end
-none_end s e = sym (is_none s e)
-
--- a text is a number where what it stands for is below the end
-pub number_test : (s : List ℕ) → ltb (number_in s) number_end ≡ is_number s
-number_test s =
-    by_test (is_number s)
-    (λ t. lt-ltb (number_in s) number_end (number_small s t) ∙ sym t)
-    (λ t. rw (t, none_end s t))
 
 -- ---- one digit more
 

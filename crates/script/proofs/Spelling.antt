@@ -1,11 +1,11 @@
 -- A number digit by digit: a digit more makes a longer number, and a comma behind it ends its field.
 use mathlib.Core.Path.{◌≡◌, refl, sym, ap, ◌∙◌}
-use mathlib.Core.Bool.{Bool, true, false}
+use mathlib.Core.Bool.{true, false}
 use mathlib.Core.List.{List, [], ◌∷◌, ◌++◌}
-use Prim.Native.Nat.{ℕ, suc, ◌+◌, ◌-◌, ◌*◌, ◌<◌, ◌≤◌}
-use native.Mathlib.Nat.{add-zero}
+use Prim.Native.Nat.{ℕ, suc, ◌+◌, ◌-◌, ◌*◌, ◌^◌, ◌<◌, ◌≤◌}
+use native.Mathlib.Nat.{add-zero, pow-le-pow_right}
 use native.Mathlib.Omega.{arith}
-use lib.Dec.{ltb}
+use Rattle.std.specs.Prelude.{Some}
 use lib.ListN.{length, get_or, drop, length-drop}
 use lib.Seq.{take-suc, get_or-take, get_or-drop, length-take-le}
 use borrow.Author.Tests.{leb-true, le-leb, ne_eqb}
@@ -13,13 +13,12 @@ use Rattle.lists.specs.Searches.{every, some, is_byte}
 use Rattle.lists.proofs.Tests.{and_left, and_right}
 use Rattle.lists.proofs.ByteSearch.{byte_here, byte_nowhere}
 use Rattle.calendar.specs.Texts.{digit}
-use Rattle.script.specs.Numbers.{number_end, is_number, value_from}
+use Rattle.script.specs.Numbers.{is_number, value_from}
 use Rattle.script.specs.Lines.{comma}
-use Rattle.script.specs.Fields.{number_in}
 use Rattle.script.specs.Spans.{cut}
 use Rattle.script.specs.Walking.{FieldEnd, Spelt, NumberRead}
 use Rattle.script.proofs.Parting.{field_past}
-use Rattle.script.proofs.Numerals.{number_test, number_value, number_parts, number_more, value_end}
+use Rattle.script.proofs.Numerals.{number_parts, number_more, value_end}
 
 cut_more : (line : List ℕ) (from i : ℕ) → from ≤ i → i < length line → cut line from (i + 1) ≡ cut line from i ++ get_or line i 0 ∷ []
 cut_more line from i a h =
@@ -37,6 +36,12 @@ no_comma [] e = refl
 no_comma (b ∷ s) e =
     let d = leb-true 48 b (and_left _ _ (and_left (digit b) (every digit s) e)) in
     rw (ne_eqb b comma (λ z. omega (arith, d, z))) (no_comma s (and_right (digit b) (every digit s) e))
+
+-- the digits from a place on so far
+pub record Near (line : List ℕ) (from v end : ℕ) : Type 0 where
+  pub spelt : Spelt line from v end
+  pub needed : get_or line from 0 ≡ 48 → ⊥
+  pub small : v < 10 ^ (end - from)
 
 module _ {line : List ℕ} {from : ℕ} where
   pub spelt_one : {x : ℕ} → from + 1 < length line → x ≤ 9 → x + 48 ≡ get_or line from 0 → Spelt line from x (from + 1)
@@ -67,25 +72,36 @@ module _ {line : List ℕ} {from : ℕ} where
         value = rw q (value_end 0 s (x + 48) ∙ rw p.value (omega arith));
       }
 
-  -- a comma ends it
-  pub spelt_ended : {v end : ℕ} {t : Bool} → Spelt line from v end → t ≡ true → get_or line end 0 ≡ comma → NumberRead line from (record { good = t; value = v; end = end })
-  spelt_ended {v} {end} p k e =
-      let s = cut line from end in
-      let i = p.inside in
+  pub near_one : {x : ℕ} → from + 1 < length line → x ≤ 9 → (x ≡ 0 → ⊥) → x + 48 ≡ get_or line from 0 → Near line from x (from + 1)
+  near_one {x} h k ne e =
+      let d : from + 1 - from ≡ 1 = omega arith in
+      record { spelt = spelt_one h k e; needed = λ z. ne (omega (arith, e, z)); small = rw d (omega arith) }
+
+  pub near_more : {v i x : ℕ} → Near line from v i → i < from + 5 → i + 1 < length line → x ≤ 9 → x + 48 ≡ get_or line i 0
+      → Near line from (v * 10 + x) (i + 1)
+  near_more {v} {i} {x} p few h k e =
+      let a = p.spelt.after in
+      let d : i + 1 - from ≡ suc (i - from) = omega arith in
       record {
-        ends = field_past line p.after (omega arith) (no_comma s (number_parts s p.good).2) (byte_here comma line end i e);
-        good = k ∙ sym p.good;
-        value = sym (number_value s p.good ∙ p.value);
+        spelt = spelt_more p.spelt p.needed refl (omega arith) h k e;
+        needed = p.needed;
+        small = rw d (omega (arith, p.small));
       }
 
-  -- a field that is parted first
-  pub number_parted : {v end : ℕ} → FieldEnd line from end → v ≡ number_in (cut line from end)
-      → NumberRead line from (record { good = ltb v number_end; value = v; end = end })
-  number_parted {v} {end} f q = record { ends = f; good = rw q (number_test (cut line from end)); value = q }
+  pub near_room : {v i : ℕ} → Near line from v i → i < from + 5 → v < 10000
+  near_room {v} {i} p few =
+      let l : 10 ^ (i - from) ≤ 10 ^ 4 = pow-le-pow_right {n = 10} (omega arith) {i = i - from} {j = 4} (omega arith) in
+      omega (arith, p.small)
+
+  -- a comma ends it
+  pub spelt_ended : {v end : ℕ} → Spelt line from v end → get_or line end 0 ≡ comma → NumberRead line from (record { number = Some v; end = end })
+  spelt_ended {v} {end} p e =
+      record {
+        ends = field_past line p.after (omega arith) (no_comma (cut line from end) (number_parts (cut line from end) p.good).2) (byte_here comma line end p.inside e);
+        number = (p.good, sym p.value);
+      }
 
 -- a number that the line ends with is its last field
-pub number_last : (line : List ℕ) {from v : ℕ} → from ≤ length line → v ≡ number_in (cut line from (length line)) → ltb v number_end ≡ true → FieldEnd line from (length line)
-number_last line {from} h q t =
-    let s = cut line from (length line) in
-    let e : is_number s ≡ true = sym (number_test s) ∙ rw (← q) t in
-    field_past line h (omega arith) (no_comma s (number_parts s e).2) (byte_nowhere comma line (length line) (omega arith))
+pub number_last : (line : List ℕ) {from : ℕ} → from ≤ length line → is_number (cut line from (length line)) ≡ true → FieldEnd line from (length line)
+number_last line {from} h e =
+    field_past line h (omega arith) (no_comma (cut line from (length line)) (number_parts (cut line from (length line)) e).2) (byte_nowhere comma line (length line) (omega arith))

@@ -33,14 +33,11 @@ pub(crate) fn put_number(out: &mut [u8], at: usize, n: u64) -> usize
     requires { at + length (decimal n) ≤ length out.old }
     ensures { Placed out.old at (decimal n) out.new result }
 {
-    let count = count_of(n);
-    let mut i = count;
+    let end = at + count_of(n);
     let mut rest = n;
-    while 10 <= rest {
-        i -= 1;
-        out[at + i] = 48 + (rest % 10) as u8;
+    for place in (at..end).rev() {
+        out[place] = b'0' + (rest % 10) as u8;
         rest /= 10;
     }
-    out[at] = 48 + rest as u8;
-    at + count
+    end
 }

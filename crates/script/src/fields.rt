@@ -1,9 +1,7 @@
-// The fields of a line: where they end, and the days of those that are dates.
-ghost use Rattle.std.specs.Prelude.{◌≡◌, ◌≤◌, length};
-ghost use Rattle.script.specs.Numbers.{day_in};
-ghost use Rattle.script.specs.Walking.{FieldEnd};
+// The fields of a line: where they end.
+ghost use Rattle.std.specs.Prelude.{◌≤◌, length};
+ghost use Rattle.script.specs.Walking.{FieldEnd, CommaFound};
 
-use calendar::{DAYS, Day, day_of};
 use lists::bytes::{byte_from, has_byte};
 
 // Where the field that starts at a place ends: at the next comma, or at the end of the line.
@@ -14,13 +12,13 @@ pub(crate) fn field_end(line: &[u8], from: usize) -> usize
     byte_from(line, from, b',')
 }
 
-// Where a field that is likely a date ends: its eight bytes are passed at once where none is a comma.
-pub(crate) fn date_end(line: &[u8], from: usize) -> usize
+// The same of a field that likely has N bytes or more: so many are passed at once where none is a comma.
+fn long_end<const N: usize>(line: &[u8], from: usize) -> usize
     requires { from ≤ length line.now }
     ensures { FieldEnd line.now from result }
 {
-    if 8 <= line.len() - from {
-        let next = from + 8;
+    if N <= line.len() - from {
+        let next = from + N;
         if !has_byte(&line[from..next], b',') {
             return byte_from(line, next, b',');
         }
@@ -28,26 +26,20 @@ pub(crate) fn date_end(line: &[u8], from: usize) -> usize
     byte_from(line, from, b',')
 }
 
-// Where a field that is likely a code ends: its sixteen bytes are passed at once where none is a comma.
-pub(crate) fn code_end(line: &[u8], from: usize) -> usize
+// The comma that ends the field that starts at a place.
+pub(crate) fn comma_from(line: &[u8], from: usize) -> Option<usize>
     requires { from ≤ length line.now }
-    ensures { FieldEnd line.now from result }
+    ensures { CommaFound line.now from result }
 {
-    if 16 <= line.len() - from {
-        let next = from + 16;
-        if !has_byte(&line[from..next], b',') {
-            return byte_from(line, next, b',');
-        }
-    }
-    byte_from(line, from, b',')
+    let end = field_end(line, from);
+    if end < line.len() { Some(end) } else { None }
 }
 
-// The day of a date; the number of days where a text is no date.
-pub(crate) fn day_in(s: &[u8]) -> u32
-    ensures { result ≡ day_in s.now }
+// The same of a field that likely has N bytes or more.
+pub(crate) fn comma_past<const N: usize>(line: &[u8], from: usize) -> Option<usize>
+    requires { from ≤ length line.now }
+    ensures { CommaFound line.now from result }
 {
-    match day_of(s) {
-        Day::Number(n) => n,
-        Day::NoDay => DAYS,
-    }
+    let end = long_end::<N>(line, from);
+    if end < line.len() { Some(end) } else { None }
 }

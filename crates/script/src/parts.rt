@@ -2,17 +2,18 @@
 ghost use Rattle.std.specs.Prelude.{◌≡◌};
 ghost use Rattle.script.specs.Spans.{cut, first_text, second_text, powers_read};
 
-use crate::numbers::{near_number, parted_number};
+use crate::numbers::numeral_from;
 use crate::reading::Line;
-use lists::numbers::least_length;
+
+// What stands for a field that is no number: the least number that has more than five digits.
+const NUMBER_END: u32 = 100000;
 
 // The part of a line from a place to before another, as far as it lies in the line.
 fn part(line: &[u8], from: usize, to: usize) -> &[u8]
     ensures { result.now ≡ cut line.now from to }
 {
-    let end = least_length(to, line.len());
-    let start = least_length(from, end);
-    &line[start..end]
+    let end = to.min(line.len());
+    &line[from.min(end)..end]
 }
 
 pub fn first_text(line: &[u8], read: Line) -> &[u8]
@@ -38,20 +39,19 @@ pub struct Powers {
 pub fn powers_of(line: &[u8], read: Line) -> Powers
     ensures { result ≡ powers_read line.now read }
 {
-    let most = least_length(read.count as usize, 256);
+    let most = (read.count as usize).min(256);
     let mut numbers = [0u32; 256];
-    let mut count: usize = 0;
     let mut at = read.from as usize;
-    while (count < most) & (at <= line.len()) {
-        let near = near_number(line, at);
-        let number = if near.good {
-            near
-        } else {
-            parted_number(line, at)
-        };
-        numbers[count] = number.value;
-        count += 1;
-        at = number.end + 1;
+    for count in 0..most {
+        if line.len() < at {
+            return Powers { count, numbers };
+        }
+        let numeral = numeral_from(line, at);
+        numbers[count] = numeral.number.unwrap_or(NUMBER_END);
+        at = numeral.end + 1;
     }
-    Powers { count, numbers }
+    Powers {
+        count: most,
+        numbers,
+    }
 }

@@ -3,12 +3,17 @@ ghost use Rattle.std.specs.Prelude.{◌≡◌, ◌≤◌, length};
 ghost use Rattle.script.specs.Lines.{line_most, advance_line, enrol_line, category_line, load_line, file_line};
 ghost use Rattle.script.specs.Lines.{engagement_line, record_line};
 ghost use Rattle.script.specs.Spans.{start, names_file, line_read};
-ghost use Rattle.script.specs.Walking.{read_by};
+ghost use Rattle.script.specs.Walking.{or_unknown, read_by};
 
-use crate::fields::{code_end, date_end, day_in, field_end};
-use crate::numbers::{NUMBER_END, count_in, number_in};
-use calendar::DAYS;
+use crate::fields::{comma_from, comma_past};
+use crate::numbers::{count_in, number_in};
+use calendar::day_of;
 use lists::bytes::has_byte;
+
+// The bytes of a code and of a date.
+const CODE: usize = 16;
+
+const DATE: usize = 8;
 
 // The calls of demand 3's list that are all on their line.
 #[derive(Clone, Copy)]
@@ -55,219 +60,143 @@ const UNKNOWN: Line = Line {
 };
 
 // `T,date,minute`
-fn advance(line: &[u8]) -> Line
+fn advance(line: &[u8]) -> Option<Line>
     requires { (start ≤ length line.now) × (length line.now ≤ line_most) }
-    ensures { result ≡ read_by line.now advance_line }
+    ensures { or_unknown result ≡ read_by line.now advance_line }
 {
-    let n = line.len();
-    let first: usize = 2;
-    let date = field_end(line, first);
-    if n <= date {
-        return UNKNOWN;
-    }
-    let second = date + 1;
-    let day = day_in(&line[first..date]);
-    let minute = number_in(&line[second..n]);
-    if (day < DAYS) & (minute < NUMBER_END) {
-        Line {
-            kind: Kind::Calls(CallKind::Advance),
-            day,
-            number: minute,
-            ..UNKNOWN
-        }
-    } else {
-        UNKNOWN
-    }
+    let date = comma_from(line, 2)?;
+    let day = day_of(&line[2..date])?;
+    let minute = number_in(&line[date + 1..])?;
+    Some(Line {
+        kind: Kind::Calls(CallKind::Advance),
+        day,
+        number: minute,
+        ..UNKNOWN
+    })
 }
 
 // `A,code,first,last`
-fn enrol(line: &[u8]) -> Line
+fn enrol(line: &[u8]) -> Option<Line>
     requires { (start ≤ length line.now) × (length line.now ≤ line_most) }
-    ensures { result ≡ read_by line.now enrol_line }
+    ensures { or_unknown result ≡ read_by line.now enrol_line }
 {
-    let n = line.len();
-    let code = code_end(line, 2);
-    if n <= code {
-        return UNKNOWN;
-    }
-    let second = code + 1;
-    let date = field_end(line, second);
-    if n <= date {
-        return UNKNOWN;
-    }
-    let third = date + 1;
-    let end = field_end(line, third);
-    if end < n {
-        return UNKNOWN;
-    }
-    let first = day_in(&line[second..date]);
-    let last = day_in(&line[third..end]);
-    if (first < DAYS) & (last < DAYS) {
-        Line {
-            kind: Kind::Calls(CallKind::EnrolActor),
-            first: code as u32,
-            day: first,
-            number: last,
-            ..UNKNOWN
-        }
-    } else {
-        UNKNOWN
-    }
+    let code = comma_past::<CODE>(line, 2)?;
+    let date = comma_from(line, code + 1)?;
+    let first = day_of(&line[code + 1..date])?;
+    let last = day_of(&line[date + 1..])?;
+    Some(Line {
+        kind: Kind::Calls(CallKind::EnrolActor),
+        first: code as u32,
+        day: first,
+        number: last,
+        ..UNKNOWN
+    })
 }
 
 // `C,category`
-fn category(line: &[u8]) -> Line
+fn category(line: &[u8]) -> Option<Line>
     requires { (start ≤ length line.now) × (length line.now ≤ line_most) }
-    ensures { result ≡ read_by line.now category_line }
+    ensures { or_unknown result ≡ read_by line.now category_line }
 {
-    let end = field_end(line, 2);
-    if end < line.len() {
-        return UNKNOWN;
+    if has_byte(&line[2..], b',') {
+        return None;
     }
-    Line {
+    Some(Line {
         kind: Kind::Calls(CallKind::EnrolCategory),
-        first: end as u32,
+        first: line.len() as u32,
         ..UNKNOWN
-    }
+    })
 }
 
 // `F,submitter,name`
-fn file(line: &[u8]) -> Line
+fn file(line: &[u8]) -> Option<Line>
     requires { (start ≤ length line.now) × (length line.now ≤ line_most) }
-    ensures { result ≡ read_by line.now file_line }
+    ensures { or_unknown result ≡ read_by line.now file_line }
 {
-    let n = line.len();
-    let submitter = code_end(line, 2);
-    if n <= submitter {
-        return UNKNOWN;
+    let submitter = comma_past::<CODE>(line, 2)?;
+    if has_byte(&line[submitter + 1..], b',') {
+        return None;
     }
-    if has_byte(&line[submitter + 1..n], b',') {
-        return UNKNOWN;
-    }
-    Line {
+    Some(Line {
         kind: Kind::Files,
         first: submitter as u32,
-        second: n as u32,
+        second: line.len() as u32,
         ..UNKNOWN
-    }
+    })
 }
 
 // `E,actor,category,date,step`
-fn engagement(line: &[u8]) -> Line
+fn engagement(line: &[u8]) -> Option<Line>
     requires { (start ≤ length line.now) × (length line.now ≤ line_most) }
-    ensures { result ≡ read_by line.now engagement_line }
+    ensures { or_unknown result ≡ read_by line.now engagement_line }
 {
-    let n = line.len();
-    let actor = code_end(line, 2);
-    if n <= actor {
-        return UNKNOWN;
-    }
-    let category = field_end(line, actor + 1);
-    if n <= category {
-        return UNKNOWN;
-    }
-    let third = category + 1;
-    let date = date_end(line, third);
-    if n <= date {
-        return UNKNOWN;
-    }
-    let fourth = date + 1;
-    let day = day_in(&line[third..date]);
-    let step = number_in(&line[fourth..n]);
-    if (day < DAYS) & (step < NUMBER_END) {
-        Line {
-            kind: Kind::Engagement,
-            first: actor as u32,
-            second: category as u32,
-            day,
-            number: step,
-            ..UNKNOWN
-        }
-    } else {
-        UNKNOWN
-    }
+    let actor = comma_past::<CODE>(line, 2)?;
+    let category = comma_from(line, actor + 1)?;
+    let date = comma_past::<DATE>(line, category + 1)?;
+    let day = day_of(&line[category + 1..date])?;
+    let step = number_in(&line[date + 1..])?;
+    Some(Line {
+        kind: Kind::Engagement,
+        first: actor as u32,
+        second: category as u32,
+        day,
+        number: step,
+        ..UNKNOWN
+    })
 }
 
 // `R,asker,id`
-fn record_of(line: &[u8]) -> Line
+fn record_of(line: &[u8]) -> Option<Line>
     requires { (start ≤ length line.now) × (length line.now ≤ line_most) }
-    ensures { result ≡ read_by line.now record_line }
+    ensures { or_unknown result ≡ read_by line.now record_line }
 {
-    let n = line.len();
-    let asker = code_end(line, 2);
-    if n <= asker {
-        return UNKNOWN;
-    }
-    let second = asker + 1;
-    let id = number_in(&line[second..n]);
-    if id < NUMBER_END {
-        Line {
-            kind: Kind::RecordOf,
-            first: asker as u32,
-            number: id,
-            ..UNKNOWN
-        }
-    } else {
-        UNKNOWN
-    }
+    let asker = comma_past::<CODE>(line, 2)?;
+    let id = number_in(&line[asker + 1..])?;
+    Some(Line {
+        kind: Kind::RecordOf,
+        first: asker as u32,
+        number: id,
+        ..UNKNOWN
+    })
 }
 
 // `L,actor,category,date,approved,` then one power or more
-fn load(line: &[u8]) -> Line
+fn load(line: &[u8]) -> Option<Line>
     requires { (start ≤ length line.now) × (length line.now ≤ line_most) }
-    ensures { result ≡ read_by line.now load_line }
+    ensures { or_unknown result ≡ read_by line.now load_line }
 {
-    let n = line.len();
-    let actor = code_end(line, 2);
-    if n <= actor {
-        return UNKNOWN;
-    }
-    let category = field_end(line, actor + 1);
-    if n <= category {
-        return UNKNOWN;
-    }
-    let third = category + 1;
-    let date = date_end(line, third);
-    if n <= date {
-        return UNKNOWN;
-    }
-    let fourth = date + 1;
-    let end = field_end(line, fourth);
-    if n <= end {
-        return UNKNOWN;
-    }
-    let day = day_in(&line[third..date]);
-    let approved = number_in(&line[fourth..end]);
+    let actor = comma_past::<CODE>(line, 2)?;
+    let category = comma_from(line, actor + 1)?;
+    let date = comma_past::<DATE>(line, category + 1)?;
+    let end = comma_from(line, date + 1)?;
+    let day = day_of(&line[category + 1..date])?;
+    let approved = number_in(&line[date + 1..end])?;
     let from = end + 1;
-    let count = count_in(line, from);
-    if (day < DAYS) & (approved < NUMBER_END) & (0 < count) {
-        Line {
-            kind: Kind::Calls(CallKind::Load),
-            first: actor as u32,
-            second: category as u32,
-            day,
-            number: approved,
-            from: from as u32,
-            count: count as u32,
-        }
-    } else {
-        UNKNOWN
-    }
+    let count = count_in(line, from)?;
+    Some(Line {
+        kind: Kind::Calls(CallKind::Load),
+        first: actor as u32,
+        second: category as u32,
+        day,
+        number: approved,
+        from: from as u32,
+        count: count as u32,
+    })
 }
 
-// What a line asks.
-pub fn read_line(line: &[u8]) -> Line
-    ensures { result ≡ line_read line.now }
+// What a line asks, where it has a known form.
+fn known(line: &[u8]) -> Option<Line>
+    ensures { or_unknown result ≡ line_read line.now }
 {
     let n = line.len();
     if 512 < n {
-        return UNKNOWN;
+        return None;
     }
     if n < 2 {
-        return UNKNOWN;
+        return None;
     }
     if line[1] != b',' {
-        return UNKNOWN;
+        return None;
     }
     match line[0] {
         b'E' => engagement(line),
@@ -277,19 +206,20 @@ pub fn read_line(line: &[u8]) -> Line
         b'L' => load(line),
         b'A' => enrol(line),
         b'C' => category(line),
-        _ => UNKNOWN,
+        _ => None,
     }
+}
+
+// What a line asks.
+pub fn read_line(line: &[u8]) -> Line
+    ensures { result ≡ line_read line.now }
+{
+    known(line).unwrap_or(UNKNOWN)
 }
 
 // Whether a line of a kind names a file.
 pub fn names_file(kind: Kind) -> bool
     ensures { result ≡ names_file kind }
 {
-    match kind {
-        Kind::Files => true,
-        Kind::Calls(call) => false,
-        Kind::Engagement => false,
-        Kind::RecordOf => false,
-        Kind::Unknown => false,
-    }
+    matches!(kind, Kind::Files)
 }

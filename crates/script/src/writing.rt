@@ -40,11 +40,10 @@ fn put_values(out: &mut [u8], at: usize, letter: u32, count: u32, values: [u32; 
     ensures { Placed out.old at (values_text letter 0 (take count values)) out.new result
         × (result ≤ at + 33) }
 {
+    let given = &values[..values.len().min(count as usize)];
     let mut next = at;
-    let mut i: u32 = 0;
-    while (i < count) & (i < 3) {
-        next = put_value(&mut *out, next, i == letter, values[i as usize]);
-        i += 1;
+    for (i, value) in given.iter().enumerate() {
+        next = put_value(&mut *out, next, i == letter as usize, *value);
     }
     next
 }

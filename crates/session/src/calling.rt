@@ -1,105 +1,83 @@
 // The lines that are calls of demand 3's list: T, A, C, L, and F with its file.
 ghost use Rattle.std.specs.Prelude.{◌≡◌};
-ghost use Rattle.tables.specs.Tables.{Columns, columns, load_columns};
-ghost use Rattle.register.specs.View.{lent};
 ghost use Rattle.register.specs.Written.{does};
 ghost use Rattle.register.specs.Told.{told, tells};
 ghost use Rattle.script.specs.Lines.{file_of};
 ghost use Rattle.script.specs.Spans.{first_text, second_text, powers_of, call_of};
 ghost use Rattle.session.specs.Lines.{line_step};
+ghost use Rattle.session.specs.Stores.{register_in};
 
 use crate::asking::NO_CALL;
-use answers::refused;
-use notification::Reading;
-use register::Head;
-use register::turning::{Turn, turned};
+use crate::store::Store;
+use answers::{Said, refused};
+use notification::Notification;
+use refusals::Refusal;
 use script::parts::{first_text, powers_of, second_text};
 use script::reading::{CallKind, Line};
 
+// What the file that a line names is read as; none where it can't be read.
+pub type File = Option<Result<Notification, Refusal>>;
+
 // A call, by what was read of its line.
-pub(crate) fn called(
-    head: Head,
-    numbers: &mut [u32; 64],
-    approved: &mut [u16; 64],
-    loads: &mut [[u16; 50]; 64],
-    call: CallKind,
-    line: &[u8],
-    read: Line,
-) -> Turn
-    ensures { (columns : Columns) →
-        tells (lent result.head columns (load_columns numbers.new approved.new loads.new))
-        result.said
-        ≡ told (does (lent head columns (load_columns numbers.old approved.old
-        loads.old))
-        (call_of call (first_text line.now read) (second_text line.now read) read.day
-        read.number
+pub(crate) fn called(store: &mut Store, call: CallKind, line: &[u8], read: Line) -> Said
+    ensures { tells (register_in store.new) result
+        ≡ told (does (register_in store.old)
+        (call_of call (first_text line.now read) (second_text line.now read) read.day read.number
         (powers_of line.now read))) }
 {
     match call {
-        CallKind::Advance => turned(head.advance(read.day, read.number)),
-        CallKind::EnrolActor => turned(head.enrol_actor(
-            first_text(line, read),
-            read.day,
-            read.number,
-        )),
-        CallKind::EnrolCategory => turned(head.enrol_category(first_text(line, read))),
+        CallKind::Advance => {
+            let reply = store.head.advance(read.day, read.number);
+            store.settle(reply)
+        }
+        CallKind::EnrolActor => {
+            let code = first_text(line, read);
+            let reply = store.head.enrol_actor(code, read.day, read.number);
+            store.settle(reply)
+        }
+        CallKind::EnrolCategory => {
+            let text = first_text(line, read);
+            let reply = store.head.enrol_category(text);
+            store.settle(reply)
+        }
         CallKind::Load => {
-            let actor = first_text(line, read);
-            let category = second_text(line, read);
             let powers = powers_of(line, read);
-            let count = powers.count;
             let given = powers.numbers;
-            turned(head.load(
-                numbers,
-                approved,
-                loads,
-                actor,
-                category,
+            let reply = store.head.load(
+                &mut store.numbers,
+                &mut store.approved,
+                &mut store.loads,
+                first_text(line, read),
+                second_text(line, read),
                 read.day,
                 read.number,
-                &given[..count],
-            ))
+                &given[..powers.count],
+            );
+            store.settle(reply)
         }
     }
 }
 
-// A filing, by what was read of its line. `readable` says whether the file that it names can be read, and `reading`
-// what it was read as.
-pub fn filed(
-    head: Head,
-    statuses: &mut [u8; 256],
-    ids: &mut [u32; 256],
-    keys: &mut [u32; 256],
-    marks: &mut [[u8; 4]; 256],
-    rows: &mut [[u16; 50]; 256],
-    numbers: &[u32; 64],
-    approved: &[u16; 64],
-    loads: &[[u16; 50]; 64],
-    line: &[u8],
-    read: Line,
-    readable: bool,
-    reading: Reading,
-) -> Turn
-    ensures { tells
-        (lent result.head (columns statuses.new ids.new keys.new marks.new
-        rows.new)
-        (load_columns numbers.now approved.now loads.now))
-        result.said
-        ≡ line_step
-        (lent head (columns statuses.old ids.old keys.old marks.old
-        rows.old)
-        (load_columns numbers.now approved.now loads.now))
-        readable reading (file_of (first_text line.now read)
-        (second_text line.now read)) }
+// A filing, by what was read of its line, and by the file that it names.
+pub fn filed(store: &mut Store, line: &[u8], read: Line, file: File) -> Said
+    ensures { tells (register_in store.new) result
+        ≡ line_step (register_in store.old) file
+        (file_of (first_text line.now read) (second_text line.now read)) }
 {
-    if !readable {
-        return Turn {
-            head: head,
-            said: refused(NO_CALL),
-        };
-    }
-    let submitter = first_text(line, read);
-    turned(head.file_reading(
-        statuses, ids, keys, marks, rows, numbers, approved, loads, submitter, reading,
-    ))
+    let Some(reading) = file else {
+        return refused(NO_CALL);
+    };
+    let reply = store.head.file_reading(
+        &mut store.statuses,
+        &mut store.ids,
+        &mut store.keys,
+        &mut store.marks,
+        &mut store.rows,
+        &store.numbers,
+        &store.approved,
+        &store.loads,
+        first_text(line, read),
+        reading,
+    );
+    store.settle(reply)
 }

@@ -4,3 +4,4 @@
 pub mod answering;
 pub mod asking;
 pub mod calling;
+pub mod store;

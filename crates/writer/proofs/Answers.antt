@@ -1,6 +1,6 @@
--- What the writer answers, test by test, and what it leaves in the two buffers.
-use mathlib.Core.Path.{◌≡◌, sym, ◌∙◌}
-use mathlib.Core.Bool.{Bool, true, not, ◌||◌}
+-- What the writer answers, and what it leaves in the two buffers.
+use mathlib.Core.Path.{◌≡◌, sym}
+use mathlib.Core.Bool.{true}
 use mathlib.Core.List.{List, [], ◌∷◌, ◌++◌}
 use Prim.Native.Nat.{ℕ, ◌≤◌}
 use native.Mathlib.Omega.{arith}
@@ -8,42 +8,15 @@ use lib.Dec.{ltb}
 use lib.ListN.{length}
 use borrow.Author.Tests.{ltb-false, not-false}
 use Rattle.lists.proofs.Tests.{or_left, or_right}
-use Rattle.refusals.specs.Tests.{input, state, first_met, tried}
+use Rattle.refusals.specs.Tests.{pass, state}
 use Rattle.refusals.specs.declared.Refusal.{Refusal}
-use Rattle.refusals.specs.declared.InputRefusal.TheVariants.{Form, Range, Zeros}
 use Rattle.refusals.specs.declared.StateRefusal.TheVariants.{Full}
-use Rattle.refusals.specs.declared.Verdict.TheVariants.{Pass, No}
-use Rattle.refusals.proofs.Tests.{pass_all, pass_append, refuse_append, tried_all, tried_first}
-use Rattle.notification.specs.Forms.{all_zero}
-use Rattle.notification.specs.Writing.{name_of, body_of, formed, ranged, note_tests, too_short, write_verdict, write_answer, written}
+use Rattle.std.specs.Prelude.{Ok, Err}
+use Rattle.refusals.proofs.Tests.{pass_all}
+use Rattle.notification.specs.Writing.{name_of, body_of, ranged, note_tests, too_short, lengths, write_verdict, write_answer, written}
 use Rattle.writer.specs.Placing.{Placed, FileWritten}
 use Rattle.notification.specs.declared.Notification.{Notification}
-use Rattle.notification.specs.declared.Written.TheVariants.{Lengths, Refused}
 use Rattle.writer.proofs.Placed.{placed_first}
-
--- ---- 9, 10, 8, and then 36
-
-pub notes_tried : (n : Notification) (f g z : Bool) → f ≡ formed n.key → g ≡ ranged n → z ≡ all_zero n.powers →
-    tried_all Pass ((not f, input Form) ∷ (not g, input Range) ∷ (z, input Zeros) ∷ []) ≡ first_met (note_tests n)
-notes_tried n f g z ef eg ez = tried_first ((not f, input Form) ∷ (not g, input Range) ∷ (z, input Zeros) ∷ []) ∙ rw (ef, eg, ez)
-
-module _ (n : Notification) where
-  pub note_refused : (name body : ℕ) (r : Refusal) → first_met (note_tests n) ≡ No r → No r ≡ write_verdict n name body
-  unfolding write_verdict
-  note_refused name body r e = sym (refuse_append r (note_tests n) ((too_short n name body, state Full) ∷ []) e)
-
-  module _ (e : first_met (note_tests n) ≡ Pass) where
-    pub note_formed : formed n.key ≡ true
-    note_formed = not-false _ (pass_all (note_tests n) e).0
-
-    pub note_ranged : ranged n ≡ true
-    note_ranged = not-false _ (pass_all (note_tests n) e).1.0
-
-    -- only the buffers are left to be tried
-    pub note_passed : (name body a b : ℕ) → a ≡ length (name_of n.key) → b ≡ length (body_of n) →
-        tried Pass (ltb name a || ltb body b, state Full) ≡ write_verdict n name body
-    unfolding write_verdict
-    note_passed name body a b ea eb = rw (ea, eb) (sym (pass_append (note_tests n) ((too_short n name body, state Full) ∷ []) e))
 
 -- ---- what a pass says
 
@@ -52,7 +25,7 @@ pub record Passed (n : Notification) (name body : ℕ) : Type 0 where
   pub name_room_lem : length (name_of n.key) ≤ name
   pub body_room_lem : length (body_of n) ≤ body
 
-pub passed : (n : Notification) (name body : ℕ) → Pass ≡ write_verdict n name body → Passed n name body
+pub passed : (n : Notification) (name body : ℕ) → pass ≡ write_verdict n name body → Passed n name body
 unfolding write_verdict
 passed n name body e =
     let all = pass_all (note_tests n ++ (too_short n name body, state Full) ∷ []) (sym e) in
@@ -68,12 +41,12 @@ passed n name body e =
 -- ---- the buffers
 
 module _ (n : Notification) (name body : List ℕ) where
-  pub file_refused : (r : Refusal) → No r ≡ write_verdict n (length name) (length body) → FileWritten n name body (Refused r) name body
+  pub file_refused : (r : Refusal) → Err r ≡ write_verdict n (length name) (length body) → FileWritten n name body (Err r) name body
   unfolding write_answer written
   file_refused r e = record { answers = rw (← e); its_name = rw (← e); its_body = rw (← e) }
 
-  pub file_passed : (a b : ℕ) (c d : List ℕ) → Pass ≡ write_verdict n (length name) (length body)
-      → Placed name 0 (name_of n.key) c a → Placed body 0 (body_of n) d b → FileWritten n name body (Lengths a b) c d
+  pub file_passed : (a b : ℕ) (c d : List ℕ) → pass ≡ write_verdict n (length name) (length body)
+      → Placed name 0 (name_of n.key) c a → Placed body 0 (body_of n) d b → FileWritten n name body (Ok (lengths a b)) c d
   unfolding write_answer written
   file_passed a b c d e p q =
       let w = passed n (length name) (length body) e in

@@ -1,12 +1,12 @@
 -- Texts put one after another into a buffer are their join put there.
 use mathlib.Core.Path.{◌≡◌, refl, sym, ap, ◌∙◌}
-use mathlib.Core.List.{List, [], ◌∷◌, ◌++◌}
-use Prim.Native.Nat.{ℕ, suc, ◌+◌, ◌<◌, ◌≤◌}
+use mathlib.Core.List.{List, [], ◌∷◌, ◌++◌, append_assoc}
+use Prim.Native.Nat.{ℕ, suc, ◌+◌, ◌-◌, ◌≤◌}
 use native.Mathlib.Nat.{add-zero}
-use native.Mathlib.Numerals.{add-one}
 use native.Mathlib.Omega.{arith}
-use lib.ListN.{length, get_or, take, drop, set, length-append}
-use lib.Seq.{sets, length-sets, sets-eq, take-suc, take_all, length-take-le}
+use lib.ListN.{length, drop, set, length-append}
+use lib.Seq.{sets, length-sets, sets-eq, drop-drop}
+use borrow.Rule.Slice.PartMut.{put_mid}
 use Rattle.writer.specs.Placing.{Placed}
 
 pub sets_append : (xs ys l : List ℕ) (i : ℕ) → sets l i (xs ++ ys) ≡ sets (sets l i xs) (i + length xs) ys
@@ -15,16 +15,15 @@ sets_append (x ∷ xs) ys l i =
     let e : suc i + length xs ≡ i + suc (length xs) = omega arith in
     rw (← e) (sets_append xs ys (set l i x) (suc i))
 
--- ---- byte by byte
+-- ---- a text copied to its place
 
-pub put_more : (l s b : List ℕ) (at i : ℕ) → i < length s → b ≡ sets l at (take i s)
-    → set b (at + i) (get_or s i 0) ≡ sets l at (take (i + 1) s)
-put_more l s b at i h e =
-    let n = length-take-le i s (omega arith) in
-    rw (add-one i, take-suc s i 0 h, sets_append (take i s) (get_or s i 0 ∷ []) l at, n, e)
-
-pub put_all : (l s b : List ℕ) (at i : ℕ) → i ≤ length s → length s ≤ i → b ≡ sets l at (take i s) → Placed l at s b (at + i)
-put_all l s b at i h k e = record { holds = e ∙ ap (sets l at) (take_all i s k); follows = omega arith }
+pub placed_copy : (l s b : List ℕ) (at : ℕ) → at + length s ≤ length l → b ≡ s → Placed l at s (put_mid at (at + length s - at) l b) (at + length s)
+placed_copy l s b at h e =
+    let n : at + length s - at ≡ length s = omega arith in
+    record {
+      holds = rw (n, e, drop-drop (length s) at l, ← append_assoc) (sym (sets-eq s l at h));
+      follows = refl;
+    }
 
 -- ---- text by text
 

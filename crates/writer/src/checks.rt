@@ -30,15 +30,13 @@ pub fn is_formed(key: Key) -> bool
     is_code(&ceder) & is_code(&acquirer) & is_category(&category[..n])
 }
 
-// Whether each power is below 10,000.
+// Whether each power is below 10,000. Each is looked at, so that many are compared at once.
 fn all_powers(powers: &[u16]) -> bool
     ensures { result ≡ every (λ p. ltb p power_end) powers.now }
 {
     let mut good = true;
-    let mut i: usize = 0;
-    while i < powers.len() {
-        good = good & (powers[i] < POWER_END);
-        i += 1;
+    for p in powers {
+        good &= *p < POWER_END;
     }
     good
 }
@@ -47,13 +45,7 @@ fn all_powers(powers: &[u16]) -> bool
 fn zeros_from(powers: &[u16], from: usize) -> bool
     ensures { result ≡ all_zero (drop from powers.now) }
 {
-    let mut good = true;
-    let mut i = from;
-    while i < powers.len() {
-        good = good & (powers[i] == 0);
-        i += 1;
-    }
-    good
+    powers.iter().skip(from).all(|p| *p == 0)
 }
 
 // Whether day, count of steps and powers are in their ranges.

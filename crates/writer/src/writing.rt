@@ -7,9 +7,9 @@ use crate::checks::{category_length, is_formed, is_ranged, is_zero};
 use crate::placing::{put_ended, put_text};
 use crate::step_line::{line_length, put_line};
 use calendar::text_of;
-use notification::{Key, Notification, Written};
-use refusals::trying::{try_input, try_state};
-use refusals::{InputRefusal, StateRefusal, Verdict};
+use notification::{FileLengths, Key, Notification};
+use refusals::trying::refuse_if;
+use refusals::{InputRefusal, Refusal, StateRefusal};
 
 // How long a name is but for the category, and a header with its LF.
 const NAME_FRAME: usize = 51;
@@ -22,10 +22,8 @@ fn lines_length(steps: u32, powers: &[u16]) -> usize
     ensures { result ≡ length (lines_of steps 0 (take steps powers.now)) }
 {
     let mut sum: usize = 0;
-    let mut k: u32 = 0;
-    while k < steps {
+    for k in 0..steps {
         sum += line_length(steps, k, powers[k as usize]);
-        k += 1;
     }
     sum
 }
@@ -53,18 +51,17 @@ fn name_length(key: Key) -> usize
 
 // What writing comes to, by the lengths of the two buffers: 9, 10, 8 and 36 in this order. Only a notification that
 // passes the first three has texts whose lengths 36 can be tried by.
-pub fn write_verdict(n: Notification, name: usize, body: usize) -> Verdict
+#[tactic(auto, unfolding(notification::specs::Writing::write_verdict))]
+pub fn write_verdict(n: Notification, name: usize, body: usize) -> Result<(), Refusal>
     ensures { result ≡ write_verdict n name body }
 {
     let key = n.key;
-    let v = try_input(Verdict::Pass, !is_formed(key), InputRefusal::Form);
-    let v = try_input(v, !is_ranged(n), InputRefusal::Range);
-    let v = try_input(v, is_zero(n), InputRefusal::Zeros);
-    if let Verdict::No(r) = v {
-        return Verdict::No(r);
-    }
+    refuse_if(!is_formed(key), InputRefusal::Form)?;
+    refuse_if(!is_ranged(n), InputRefusal::Range)?;
+    refuse_if(is_zero(n), InputRefusal::Zeros)?;
     let short = (name < name_length(key)) | (body < body_length(n));
-    try_state(Verdict::Pass, short, StateRefusal::Full)
+    refuse_if(short, StateRefusal::Full)?;
+    Ok(())
 }
 
 // Puts ceder, acquirer and date, each ended by a byte.
@@ -114,10 +111,8 @@ fn put_lines(buffer: &mut [u8], at: usize, steps: u32, powers: &[u16]) -> usize
         buffer.new result }
 {
     let mut next = at;
-    let mut k: u32 = 0;
-    while k < steps {
+    for k in 0..steps {
         next = put_line(&mut *buffer, next, steps, k, powers[k as usize]);
-        k += 1;
     }
     next
 }
@@ -134,16 +129,14 @@ fn put_body(buffer: &mut [u8], n: Notification) -> usize
 
 // Writes a notification's name and body into two lent buffers, the rest of both untouched, and gives their lengths. A
 // notification that is refused leaves both as they are.
-pub fn write_file(n: Notification, name: &mut [u8], body: &mut [u8]) -> Written
+pub fn write_file(n: Notification, name: &mut [u8], body: &mut [u8]) -> Result<FileLengths, Refusal>
     ensures { FileWritten n name.old body.old result name.new body.new }
 {
-    let verdict = write_verdict(n, name.len(), body.len());
-    match verdict {
-        Verdict::Pass => {
-            let named = put_name(name, n.key);
-            let written = put_body(body, n);
-            Written::Lengths(named, written)
-        }
-        Verdict::No(r) => Written::Refused(r),
-    }
+    write_verdict(n, name.len(), body.len())?;
+    let named = put_name(name, n.key);
+    let written = put_body(body, n);
+    Ok(FileLengths {
+        name: named,
+        body: written,
+    })
 }

@@ -2,25 +2,14 @@
 use mathlib.Core.Path.{◌∙◌, ap}
 use native.Mathlib.Omega.{arith}
 use Rattle.codes.specs.Codes.{value_of}
-use Rattle.codes.proofs.Weighing.{value_below, weighed_small, sum_small, weighed_more, check_is}
+use Rattle.codes.proofs.Weighing.{value_below, weighed_small, sum_small, check_is}
 use Rattle.codes.proofs.has_check.Goals as goal
-
-pub overflow_mul-sum : goal.overflow_mul-sum
-overflow_mul-sum c =
-    let l = c.loop-i in
-    omega (arith, weighed_small l.i c.value_of.result (rw c.value_of.ensures (value_below c.byte_at.result)))
 
 pub overflow_add-sum : goal.overflow_add-sum
 overflow_add-sum c =
     let l = c.loop-i in
     let s = c.args.s.now in
     omega (arith, c.loop-i.auto.i-end, l.invariant, sum_small s l.i, weighed_small l.i c.value_of.result (rw c.value_of.ensures (value_below c.byte_at.result)))
-
-pub loop-i-preserved : goal.loop-i-preserved
-loop-i-preserved c =
-    let l = c.loop-i in
-    let s = c.args.s.now in
-    weighed_more s l.i l.sum _ l.invariant (c.value_of.ensures ∙ ap value_of c.byte_at.ensures)
 
 pub returns : goal.returns
 returns c =

@@ -19,6 +19,3 @@ loop-i-preserved c =
     let a = c.args in
     let l = c.loop-i in
     bytes_past a.b a.s.now l.i 16 (omega arith) (sixteen l.i _ _ c.has_byte.ensures c.if-has_byte.false) ∙ l.invariant
-
-pub returns : goal.returns
-returns c = c.byte_from.ensures ∙ c.loop-i.invariant

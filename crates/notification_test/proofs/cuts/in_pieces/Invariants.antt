@@ -1,6 +1,6 @@
--- `cuts::in_pieces` ends at the body's end.
-use Rattle.std.proofs.Common.{length, ◌-◌}
+-- `cuts::in_pieces` ends where nothing of the body is left.
+use Rattle.std.proofs.Common.{length}
 use Rattle.notification_test.proofs.cuts.in_pieces.Given as goal
 
-abbrev pub decreases-loop-at : goal.decreases-loop-at
-decreases-loop-at l = length l.body - l.at
+abbrev pub decreases-loop-rest : goal.decreases-loop-rest
+decreases-loop-rest l = length l.rest

@@ -4,7 +4,8 @@ use Prim.Native.Nat.{ℕ, ◌-◌}
 use native.Mathlib.Omega.{arith}
 use lib.ListN.{length, take}
 use Rattle.reader.specs.Parts.{key_read}
-use Rattle.reader.specs.declared.keys.KeyRead.{KeyRead}
+use Rattle.std.specs.Prelude.{Option, is_some}
+use Rattle.notification.specs.declared.Key.{Key}
 use Rattle.reader.proofs.Frames.{header_few, header_other, header_inside}
 use Rattle.reader.proofs.keys.is_header.Goals as goal
 
@@ -20,5 +21,5 @@ pub returns : goal.returns
 returns c =
     let line = c.args.line.now in
     let n : length line - 1 - 0 ≡ length line - 1 = omega arith in
-    let e = ap (λ (r : KeyRead). r.good) c.key_in-read.ensures ∙ ap (λ (i : ℕ). (key_read 59 (take i line)).good) n in
+    let e = c.is_some.ensures ∙ (ap (λ (r : Option Key). is_some r) c.key_in.ensures ∙ ap (λ (i : ℕ). is_some (key_read 59 (take i line))) n) in
     header_inside line (length line - 1) (omega arith) _ c.if-line-end-ne59.false e

@@ -11,6 +11,7 @@ use Rattle.reader.proofs.lines.pass_lines.Goals as goal
 use Rattle.reader.proofs.lines.pass_lines.Goals.{After-byte_from-end}
 
 -- the line that begins there, by its end
+
 module _ (c : After-byte_from-end) where
   ended : LineEnd c.args.body.now c.args.from c.byte_from-end.result
   ended = line_ends _ c.requires.0 c.byte_from-end.ensures

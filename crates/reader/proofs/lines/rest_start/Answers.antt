@@ -1,16 +1,32 @@
--- As long as the loop runs, no LF stands from the place on.
+-- The unfinished line begins after the last LF.
+use mathlib.Core.Path.{◌≡◌, sym, ap, ◌∙◌}
+use Prim.Native.Nat.{ℕ}
 use native.Mathlib.Omega.{arith}
-use Rattle.reader.proofs.Ends.{all_in, rest_found, back_in, rest_none}
+use lib.ListN.{drop, length-drop}
+use Rattle.std.proofs.Common.{rules, tests, Iter}
+use Rattle.std.proofs.lemmas.Iterator.Adapters.{YieldsList-from_rev_slice}
+use Rattle.std.proofs.lemmas.Iterator.Search.{position_from_yields_List}
+use Rattle.lists.proofs.Parts.{rest_all}
+use Rattle.reader.proofs.Ends.{is_break, search_back, break_found, break_lost}
 use Rattle.reader.proofs.lines.rest_start.Goals as goal
+use Rattle.reader.proofs.lines.rest_start.Goals.{After-position}
 
-pub loop-i-init : goal.loop-i-init
-loop-i-init c = (c.requires, omega arith, all_in c.args.s.now)
+searched : (b : After-position) → b.position.result ≡ search_back (drop b.args.from b.args.s.now)
+searched b =
+    let s = b.args.s.now in
+    let from = b.args.from in
+    let e = ap (λ (x : Iter ℕ). x.rest.now) b.rev.ensures.source ∙ (b.iter.ensures.rest ∙ rest_all from s) in
+    position_from_yields_List is_break _ _ _ b.position.ensures.ran (YieldsList-from_rev_slice (drop from s) e)
+    (λ x r q k. search (rules, tests))
 
-pub returns-then-s-i-eq10 : goal.returns-then-s-i-eq10
-returns-then-s-i-eq10 c = let l = c.loop-i in let a = c.args in rest_found a.s.now a.from l.i c.loop-i-test.true l.invariant.1 c.if-s-i-eq10.true l.invariant.2
+pub returns-in-Some : goal.returns-in-Some
+returns-in-Some c =
+    let t = drop c.args.from c.args.s.now in
+    let f = break_found t c.in-Some.unfinished (sym c.in-Some.is ∙ searched (goal.at.returns-in-Some c).After-position) in
+    omega (arith, f.0, f.1, length-drop c.args.from c.args.s.now)
 
-pub loop-i-preserved : goal.loop-i-preserved
-loop-i-preserved c = let l = c.loop-i in let a = c.args in (omega arith, omega arith, back_in a.s.now l.i (omega arith) l.invariant.1 c.if-s-i-eq10.false l.invariant.2)
-
-pub returns : goal.returns
-returns c = let l = c.loop-i in let a = c.args in rest_none a.s.now a.from l.i l.invariant.0 c.loop-i-test.false l.invariant.2
+pub returns-in-None : goal.returns-in-None
+returns-in-None c =
+    let t = drop c.args.from c.args.s.now in
+    let e = break_lost t (sym c.in-None.is ∙ searched (goal.at.returns-in-None c).After-position) in
+    omega (arith, e)

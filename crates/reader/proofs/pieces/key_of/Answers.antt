@@ -4,5 +4,4 @@ use Rattle.reader.proofs.pieces.key_of.Goals as goal
 
 pub returns : goal.returns
 returns c =
-    key_made c.args.header.now c.args.day _ _ _ c.requires.0 c.sixteen.ensures c.sixteen-2.ensures
-    c.six.ensures
+    key_made c.args.header.now c.args.day _ _ _ c.requires.0 c.in_bytes.ensures c.in_bytes-2.ensures c.in_bytes-3.ensures

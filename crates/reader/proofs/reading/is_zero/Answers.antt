@@ -1,25 +1,16 @@
--- The powers from here on say what all say, until one is not 0.
-use mathlib.Core.Path.{refl}
-use native.Mathlib.Omega.{arith}
-use mir.Syntax.{w16}
-use borrow.Kind.Array.{e_int, good_length}
-use Rattle.notification.specs.Forms.{places}
-use Rattle.reader.proofs.Series.{zero_not, zero_more, zero_all}
+-- Every power is 0 where the library's test of each of them says so.
+use mathlib.Core.Path.{sym, ◌∙◌}
+use Prim.Native.Nat.{ℕ}
+use lib.Dec.{eqb}
+use Rattle.std.proofs.Common.{rules, tests}
+use Rattle.std.proofs.lemmas.Iterator.{YieldsList-from_slice}
+use Rattle.std.proofs.lemmas.Iterator.Search.{all_from_yields_List}
+use Rattle.notification.specs.Forms.{all_zero}
+use Rattle.reader.proofs.Series.{every_all}
 use Rattle.reader.proofs.reading.is_zero.Goals as goal
 
-pub loop-i-init : goal.loop-i-init
-loop-i-init c = (good_length (e_int w16) places c.args.powers _ c.well_formed.0, omega arith, refl)
-
-pub returns-then-powers-i-ne0 : goal.returns-then-powers-i-ne0
-returns-then-powers-i-ne0 c =
-    let l = c.loop-i in
-    zero_not c.args.powers l.i l.invariant.2 (omega (arith, l.invariant.0, c.loop-i-test.true)) c.if-powers-i-ne0.true
-
-pub loop-i-preserved : goal.loop-i-preserved
-loop-i-preserved c =
-    let l = c.loop-i in
-    let t = c.loop-i-test.true in
-    (l.invariant.0, omega (arith, t), zero_more c.args.powers l.i l.invariant.2 (omega (arith, l.invariant.0, t)) c.if-powers-i-ne0.false)
-
 pub returns : goal.returns
-returns c = let l = c.loop-i in zero_all c.args.powers l.i l.invariant.2 (omega (arith, l.invariant.0, c.loop-i-test.false))
+unfolding all_zero
+returns c =
+    all_from_yields_List (λ (p : ℕ). eqb p 0) _ _ _ c.all.ensures.ran (YieldsList-from_slice c.args.powers (cc)) (λ x b q k. search (rules, tests))
+    ∙ sym (every_all (λ p. eqb p 0) c.args.powers)

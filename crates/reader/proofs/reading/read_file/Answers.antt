@@ -5,5 +5,5 @@ use Rattle.reader.proofs.reading.read_file.Goals as goal
 pub returns : goal.returns
 returns c =
     let args = c.args in
-    one_piece args.name.now args.body.now c.begin-fresh.result c.feed-fed.result c.end.result
-    c.begin-fresh.ensures c.feed-fed.ensures c.end.ensures
+    one_piece args.name.now args.body.now c.begin.result c.feed.result c.end.result
+    c.begin.ensures c.feed.ensures c.end.ensures

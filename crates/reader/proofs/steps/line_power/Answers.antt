@@ -21,22 +21,22 @@ pub returns-then-not-stands-2 : goal.returns-then-not-stands-2
 returns-then-not-stands-2 c =
     no_until c.args.steps c.args.k c.args.line.now c.labels_of-labels.result c.requires.0 c.requires.1 c.labels_of-labels.ensures _ _ c.stands.ensures (ap not c.if-not-stands.false) c.stands-2.ensures (ap not c.if-not-stands-2.true)
 
-pub power_at-power-requires : goal.power_at-power-requires
-power_at-power-requires c =
+pub power_at-requires : goal.power_at-requires
+power_at-requires c =
     line_long c.args.steps c.args.k c.args.line.now c.labels_of-labels.result c.requires.0 c.requires.1 c.labels_of-labels.ensures _ _ c.stands.ensures (ap not c.if-not-stands.false) c.stands-2.ensures (ap not c.if-not-stands-2.false)
 
-pub overflow_add-at-in-Is : goal.overflow_add-at-in-Is
-overflow_add-at-in-Is c =
-    omega (arith, line_holds c.args.steps c.args.k c.args.line.now c.labels_of-labels.result c.requires.0 c.requires.1 c.labels_of-labels.ensures _ _ c.stands.ensures (ap not c.if-not-stands.false) c.stands-2.ensures (ap not c.if-not-stands-2.false) _ _ (sym c.in-Is.is ∙ c.power_at-power.ensures))
+pub returns-in_default : goal.returns-in_default
+returns-in_default c =
+    line_none c.args.steps c.args.k c.args.line.now c.labels_of-labels.result c.requires.0 c.requires.1 c.labels_of-labels.ensures _ _ c.stands.ensures (ap not c.if-not-stands.false) c.stands-2.ensures (ap not c.if-not-stands-2.false) (sym c.in_default.is ∙ c.power_at.ensures)
+
+pub overflow_add-at-3 : goal.overflow_add-at-3
+overflow_add-at-3 c =
+    omega (arith, line_holds c.args.steps c.args.k c.args.line.now c.labels_of-labels.result c.requires.0 c.requires.1 c.labels_of-labels.ensures _ _ c.stands.ensures (ap not c.if-not-stands.false) c.stands-2.ensures (ap not c.if-not-stands-2.false) _ _ (sym c.in-Some.is ∙ c.power_at.ensures))
 
 pub returns-then-at-len : goal.returns-then-at-len
 returns-then-at-len c =
-    line_gives c.args.steps c.args.k c.args.line.now c.labels_of-labels.result c.requires.0 c.requires.1 c.labels_of-labels.ensures _ _ c.stands.ensures (ap not c.if-not-stands.false) c.stands-2.ensures (ap not c.if-not-stands-2.false) _ _ (sym c.in-Is.is ∙ c.power_at-power.ensures) c.if-at-len.true
+    line_gives c.args.steps c.args.k c.args.line.now c.labels_of-labels.result c.requires.0 c.requires.1 c.labels_of-labels.ensures _ _ c.stands.ensures (ap not c.if-not-stands.false) c.stands-2.ensures (ap not c.if-not-stands-2.false) _ _ (sym c.in-Some.is ∙ c.power_at.ensures) c.if-at-len.true
 
 pub returns-else-at-len : goal.returns-else-at-len
 returns-else-at-len c =
-    line_longer c.args.steps c.args.k c.args.line.now c.labels_of-labels.result c.requires.0 c.requires.1 c.labels_of-labels.ensures _ _ c.stands.ensures (ap not c.if-not-stands.false) c.stands-2.ensures (ap not c.if-not-stands-2.false) _ _ (sym c.in-Is.is ∙ c.power_at-power.ensures) c.if-at-len.false
-
-pub returns-in-Not : goal.returns-in-Not
-returns-in-Not c =
-    line_none c.args.steps c.args.k c.args.line.now c.labels_of-labels.result c.requires.0 c.requires.1 c.labels_of-labels.ensures _ _ c.stands.ensures (ap not c.if-not-stands.false) c.stands-2.ensures (ap not c.if-not-stands-2.false) (sym c.in-Not.is ∙ c.power_at-power.ensures)
+    line_longer c.args.steps c.args.k c.args.line.now c.labels_of-labels.result c.requires.0 c.requires.1 c.labels_of-labels.ensures _ _ c.stands.ensures (ap not c.if-not-stands.false) c.stands-2.ensures (ap not c.if-not-stands-2.false) _ _ (sym c.in-Some.is ∙ c.power_at.ensures) c.if-at-len.false

@@ -1,6 +1,5 @@
 -- What the lines from here on add to what is kept now is what all lines add to what was kept first.
-use borrow.Author.Rules.{rules}
-use mathlib.Core.Path.{refl, sym, ◌∙◌}
+use mathlib.Core.Path.{sym, ◌∙◌}
 use native.Mathlib.Omega.{arith}
 use Rattle.reader.specs.Walking.{LineEnd}
 use Rattle.reader.proofs.Ends.{line_ends, whole_here, whole_over, take_first, take_none}
@@ -8,12 +7,10 @@ use Rattle.reader.proofs.steps.take_steps.Goals as goal
 use Rattle.reader.proofs.steps.take_steps.Goals.{After-byte_from-end}
 
 -- the line that begins where the good ones end
+
 module _ (c : After-byte_from-end) where
   ended : LineEnd c.args.body.now c.good_run-run.result.at c.byte_from-end.result
   ended = line_ends _ c.good_run-run.ensures.within c.byte_from-end.ensures
-
-pub loop-run-init : goal.loop-run-init
-loop-run-init c = (search rules, refl, refl)
 
 pub returns-then-body-end : goal.returns-then-body-end
 returns-then-body-end c =
@@ -29,9 +26,6 @@ slice_bounds-take_step-count c = omega (arith, (ended (goal.at.slice_bounds-take
 
 pub slice_bounds-take_step-start : goal.slice_bounds-take_step-start
 slice_bounds-take_step-start c = omega (arith, (ended (goal.at.slice_bounds-take_step-start c).After-byte_from-end).after, (ended (goal.at.slice_bounds-take_step-start c).After-byte_from-end).within)
-
-pub slice_bounds-take_step-end : goal.slice_bounds-take_step-end
-slice_bounds-take_step-end c = omega (arith, (ended (goal.at.slice_bounds-take_step-end c).After-byte_from-end).after, (ended (goal.at.slice_bounds-take_step-end c).After-byte_from-end).within)
 
 pub loop-run-smaller : goal.loop-run-smaller
 loop-run-smaller c =

@@ -1,6 +1,6 @@
--- What is written is no more than there is, and each write that goes on takes something.
-use Rattle.std.proofs.Common.{length, ◌-◌}
+-- Each write that goes on takes something of what is left.
+use Rattle.std.proofs.Common.{length}
 use Rattle.register_script.proofs.output.write_all.Given as goal
 
-abbrev pub decreases-loop-done : goal.decreases-loop-done
-decreases-loop-done l = length l.bytes - l.done
+abbrev pub decreases-loop-rest : goal.decreases-loop-rest
+decreases-loop-rest l = length l.rest

@@ -4,22 +4,10 @@ use native.Mathlib.Omega.{arith}
 use Rattle.request_reader.proofs.PlainMembers.{plain_terms}
 use Rattle.request_reader.proofs.head.plain_terms.Goals as goal
 
-pub returns-then-s-at : goal.returns-then-s-at
-returns-then-s-at c = λ h. absurd (omega (arith, c.no_terms.ensures, c.requires))
-
-pub returns-then-s-at-lt32 : goal.returns-then-s-at-lt32
-returns-then-s-at-lt32 c = λ h. absurd (omega (arith, c.no_terms-then-s-at-lt32.ensures, c.requires))
-
-pub returns-then-not-same_text : goal.returns-then-not-same_text
-returns-then-not-same_text c = λ h. absurd (omega (arith, c.no_terms-then-not-same_text.ensures, c.requires))
-
-pub returns-then-not-is_category : goal.returns-then-not-is_category
-returns-then-not-is_category c = λ h. absurd (omega (arith, c.no_terms-then-not-is_category.ensures, c.requires))
-
 pub returns : goal.returns
 returns c =
     let a = c.args in
     let n = c.category_length-n.result in
-    λ h. plain_terms a.s.now a.at n (a.at + 26 + n - (a.at + 26)) _ _ _ _ (omega arith)
+    plain_terms a.s.now a.at n (a.at + 26 + n - (a.at + 26)) _ _ _ _ (omega arith)
     c.same_text.ensures c.if-not-same_text.false c.is_category.ensures
-    c.if-not-is_category.false c.six.ensures (c.plain_dates.ensures h)
+    c.if-not-is_category.false c.six.ensures c.plain_dates.ensures

@@ -1,30 +1,36 @@
 -- `members::code_member` meets its contract: a colon, sixteen characters of a code in quotes, and a comma.
-use mathlib.Core.Path.{sym, ◌∙◌}
+use mathlib.Core.List.{[], ◌∷◌}
+use mathlib.Core.Path.{◌≡◌, sym, ◌∙◌}
+use mathlib.Core.Bool.{true}
 use Prim.Native.Nat.{◌+◌, ◌≤◌}
 use native.Mathlib.Omega.{arith}
 use lib.ListN.{length}
 use Rattle.notification.specs.Forms.{is_code}
-use Rattle.request.specs.Writing.{object_most}
+use Rattle.request.specs.Tokens.{is, quoted_by}
 use Rattle.request.proofs.Unquoted.{code_unquoted}
-use Rattle.request_reader.proofs.Walks.{comma, mark_inside, mark_found, mark_lost}
+use Rattle.request_reader.specs.Walking.{framed}
+use Rattle.request_reader.proofs.Walks.{comma, missing_first}
 use Rattle.request_reader.proofs.Values.{framed_parts}
-use Rattle.request_reader.proofs.ValueForms.{code_filled, code_long, part_cut, part_found, part_unframed, part_other}
+use Rattle.request_reader.proofs.ValueForms.{code_filled, code_long, part_cut, part_found, part_unframed, part_other, part_unended}
 use Rattle.request_reader.proofs.members.code_member.Goals as goal
 use Rattle.request_reader.proofs.members.code_member.Goals.{Else-not-is_framed}
 
--- the sixteen characters and their quotes are within the bytes, which are no more than an object's most
-framed-within : (c : Else-not-is_framed)
-    → (c.value_at-from.result + 16 + 2 ≤ length c.args.s.now)
-    × (length c.args.s.now ≤ object_most)
-framed-within c =
-    let quoted = sym c.is_framed.ensures ∙ c.if-not-is_framed.false in
-    ((framed_parts c.args.s.now c.value_at-from.result 16 quoted).0, c.requires)
+quotes-stand : (c : Else-not-is_framed) → framed c.args.s.now c.in_ok-from.from 16 ≡ true
+quotes-stand c = sym c.is_framed.ensures ∙ c.if-not-is_framed.false
+
+-- the sixteen characters and their quotes are within the bytes
+framed-within : (c : Else-not-is_framed) → c.in_ok-from.from + 16 + 2 ≤ length c.args.s.now
+framed-within c = (framed_parts c.args.s.now c.in_ok-from.from 16 (quotes-stand c)).0
+
+pub returns-in_err-from : goal.returns-in_err-from
+returns-in_err-from c =
+    rw c.from_residual.ensures
+    (missing_first (is (58 ∷ []) ∷ []) (quoted_by is_code ∷ is (44 ∷ []) ∷ []) c.args.s.now c.args.at c.in_err-from.ensures.opened)
 
 pub returns-then-not-is_framed : goal.returns-then-not-is_framed
 returns-then-not-is_framed c =
-    let from = c.value_at-from.result in
-    part_unframed is_code code_unquoted (λ t. t) _ _ from c.value_at-from.ensures 16 (code_long _ from) _
-    (part_cut _ from 16 (from + 17) (omega arith)) _ _ c.is_framed.ensures c.if-not-is_framed.true c.requires
+    let from = c.in_ok-from.from in
+    part_unframed is_code code_unquoted _ _ from c.in_ok-from.ensures.opened 16 (code_long _ from) (sym c.is_framed.ensures ∙ c.if-not-is_framed.true)
 
 pub overflow_add-code : goal.overflow_add-code
 overflow_add-code c = omega (arith, framed-within c)
@@ -37,36 +43,28 @@ slice_bounds-code-end c = omega (arith, framed-within c)
 
 pub returns-then-not-is_code : goal.returns-then-not-is_code
 returns-then-not-is_code c =
-    let from = c.value_at-from.result in
-    part_other is_code code_unquoted (λ t. t) _ _ from c.value_at-from.ensures 16 (code_long _ from) _
-    (part_cut _ from 16 (from + 17) (omega arith)) _ _ c.is_code.ensures c.if-not-is_code.true c.requires
+    let from = c.in_ok-from.from in
+    part_other is_code code_unquoted _ _ from c.in_ok-from.ensures.opened 16 (code_long _ from) _
+    (part_cut _ from 16 (from + 17) (omega arith)) (sym c.is_code.ensures ∙ c.if-not-is_code.true)
 
 pub overflow_add-from : goal.overflow_add-from
 overflow_add-from c = omega (arith, framed-within (goal.at.overflow_add-from c).Else-not-is_framed)
 
-pub returns-then-byte_at-ne44 : goal.returns-then-byte_at-ne44
-returns-then-byte_at-ne44 c =
-    let from = c.value_at-from.result in
-    part_found is_code code_unquoted (λ t. t) _ _ from c.value_at-from.ensures 16 (code_long _ from) _
-    (part_cut _ from 16 (from + 17) (omega arith)) _ _ (from + 18) 8193 _
-    c.is_framed.ensures c.if-not-is_framed.false c.is_code.ensures c.if-not-is_code.false (omega arith)
-    (mark_lost c.args.s.now (from + 18) _ 44 c.past_blanks-comma.ensures.past comma
-    (λ d. c.if-byte_at-ne44.true (c.byte_at.ensures ∙ d)) c.requires)
-    (λ h. absurd (omega (arith, h, c.requires)))
+pub after_mark-requires : goal.after_mark-requires
+after_mark-requires c = (omega (arith, framed-within (goal.at.after_mark-requires c).Else-not-is_framed), comma)
 
-pub overflow_add-result : goal.overflow_add-result
-overflow_add-result c =
-    let i = mark_inside c.args.s.now (c.value_at-from.result + 18) _ 44 c.past_blanks-comma.ensures.past comma
-    (sym c.byte_at.ensures ∙ c.if-byte_at-ne44.false) in
-    omega (arith, i, c.requires)
+pub returns-in_err-next : goal.returns-in_err-next
+returns-in_err-next c =
+    let from = c.in_ok-from.from in
+    rw c.from_residual-in_err-next.ensures
+    (part_unended is_code code_unquoted _ _ from c.in_ok-from.ensures.opened 16 (code_long _ from) _
+    (part_cut _ from 16 (from + 17) (omega arith)) (quotes-stand (goal.at.returns-in_err-next c).Else-not-is_framed)
+    (sym c.is_code.ensures ∙ c.if-not-is_code.false) (from + 18) (omega arith) c.in_err-next.ensures.walked)
 
 pub returns : goal.returns
 returns c =
-    let from = c.value_at-from.result in
-    let good = c.if-not-is_code.false in
-    part_found is_code code_unquoted (λ t. t) _ _ from c.value_at-from.ensures 16 (code_long _ from) _
-    (part_cut _ from 16 (from + 17) (omega arith)) _ _ (from + 18) _ _
-    c.is_framed.ensures c.if-not-is_framed.false c.is_code.ensures good (omega arith)
-    (mark_found c.args.s.now (from + 18) _ 44 c.past_blanks-comma.ensures.past comma
-    (sym c.byte_at.ensures ∙ c.if-byte_at-ne44.false))
-    (λ h. code_filled _ _ (sym c.is_code.ensures ∙ good) c.sixteen.ensures)
+    let from = c.in_ok-from.from in
+    let good = sym c.is_code.ensures ∙ c.if-not-is_code.false in
+    part_found is_code code_unquoted _ _ from c.in_ok-from.ensures.opened 16 (code_long _ from) _
+    (part_cut _ from 16 (from + 17) (omega arith)) (quotes-stand (goal.at.returns c).Else-not-is_framed)
+    good (from + 18) (omega arith) (λ t. t) _ _ c.in_ok-next.ensures.walked (code_filled _ _ good c.sixteen-value.ensures)

@@ -5,9 +5,9 @@ use Rattle.request.specs.Tokens.{tokens}
 use Rattle.request_reader.proofs.SeriesReads.{StepDue}
 use Rattle.request_reader.proofs.series.take_series.Given as goal
 
-abbrev pub invariant-loop-labels : goal.invariant-loop-labels
-invariant-loop-labels l =
+abbrev pub invariant-loop-step : goal.invariant-loop-step
+invariant-loop-step l =
     StepDue l.steps l.s l.first (record { tally = no_steps; powers = l.initial.powers }) l.lead l.at (record { tally = l.tally; powers = l.powers })
 
-abbrev pub decreases-loop-labels : goal.decreases-loop-labels
-decreases-loop-labels l = length (tokens (drop l.at l.s))
+abbrev pub decreases-loop-step : goal.decreases-loop-step
+decreases-loop-step l = length (tokens (drop l.at l.s))

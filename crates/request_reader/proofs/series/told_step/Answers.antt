@@ -18,8 +18,8 @@ slice_bounds-step_at-end-2 c =
     let h = c.hour_label-until.ensures in
     omega (arith, ap length h.0, h.1)
 
-pub step_at-step-requires : goal.step_at-step-requires
-step_at-step-requires c =
+pub step_at-requires : goal.step_at-requires
+step_at-requires c =
     let h = c.hour_label-from.ensures in
     let u = c.hour_label-until.ensures in (
       c.requires.0,
@@ -29,8 +29,8 @@ step_at-step-requires c =
       omega (arith, ap length u.0, hour_length c.args.steps c.least.result),
     )
 
-pub returns : goal.returns
-returns c =
+pub returns-clause-told : goal.returns-clause-told
+returns-clause-told c =
     let a = c.args in
     next_told a.steps _ _ _ _ a.s.now a.at _ _ _ _ c.least-k.ensures c.least.ensures
-    c.hour_label-from.ensures.0 c.hour_label-until.ensures.0 c.step_at-step.ensures c.tell.ensures
+    c.hour_label-from.ensures.0 c.hour_label-until.ensures.0 c.in_ok-step.ensures c.tell.ensures

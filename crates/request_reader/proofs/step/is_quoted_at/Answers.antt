@@ -5,18 +5,7 @@ use lib.ListN.{length}
 use Rattle.request_reader.proofs.Values.{framed_parts}
 use Rattle.request_reader.proofs.step.is_quoted_at.Goals as goal
 
-pub returns-then-not-is_framed : goal.returns-then-not-is_framed
-returns-then-not-is_framed c = rw (sym c.is_framed.ensures ∙ c.if-not-is_framed.true)
-
-pub overflow_add-from : goal.overflow_add-from
-overflow_add-from c =
-    let framed = sym c.is_framed.ensures ∙ c.if-not-is_framed.false in
-    omega (arith, c.ranges.from, (framed_parts c.args.s.now c.args.from (length c.args.text.now) framed).0)
-
 pub same_text-requires : goal.same_text-requires
 same_text-requires c =
     let framed = sym c.is_framed.ensures ∙ c.if-not-is_framed.false in
     omega (arith, (framed_parts c.args.s.now c.args.from (length c.args.text.now) framed).0)
-
-pub returns : goal.returns
-returns c = c.same_text.ensures ∙ rw (sym c.is_framed.ensures ∙ c.if-not-is_framed.false)

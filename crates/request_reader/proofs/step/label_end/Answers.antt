@@ -1,25 +1,18 @@
 -- `step::label_end` meets its contract: a quote, bytes of a label, and a quote.
 use mathlib.Core.Path.{sym, ◌∙◌}
-use native.Mathlib.Omega.{arith}
-use Rattle.request_reader.proofs.ByteRuns.{byte_within, loose_unquoted, loose_found, loose_other}
+use Rattle.request_reader.proofs.ByteRuns.{loose_unquoted, loose_found, loose_other}
 use Rattle.request_reader.proofs.step.label_end.Goals as goal
 
 pub returns-then-byte_at-ne34 : goal.returns-then-byte_at-ne34
 returns-then-byte_at-ne34 c =
-    loose_unquoted c.args.s.now c.args.from c.requires.1 (λ e. c.if-byte_at-ne34.true (c.byte_at.ensures ∙ e)) c.requires.0
-
-pub overflow_add-from : goal.overflow_add-from
-overflow_add-from c =
-    omega (arith, c.requires.0, byte_within c.args.s.now c.args.from 34 (sym c.byte_at.ensures ∙ c.if-byte_at-ne34.false) (λ e. omega arith))
+    loose_unquoted c.args.s.now c.args.from c.requires.1 (λ e. c.if-byte_at-ne34.true (c.byte_at.ensures ∙ e))
 
 pub returns-then-byte_at-ne34-2 : goal.returns-then-byte_at-ne34-2
 returns-then-byte_at-ne34-2 c =
-    loose_other c.args.s.now c.args.from c.requires.1 (sym c.byte_at.ensures ∙ c.if-byte_at-ne34.false) _ c.label_run-end.ensures (λ e. c.if-byte_at-ne34-2.true (c.byte_at-2.ensures ∙ e)) c.requires.0
-
-pub overflow_add-result : goal.overflow_add-result
-overflow_add-result c =
-    omega (arith, c.requires.0, byte_within c.args.s.now c.label_run-end.result 34 (sym c.byte_at-2.ensures ∙ c.if-byte_at-ne34-2.false) (λ e. omega arith))
+    loose_other c.args.s.now c.args.from c.requires.1 (sym c.byte_at.ensures ∙ c.if-byte_at-ne34.false) _ c.label_run-end.ensures
+    (λ e. c.if-byte_at-ne34-2.true (c.byte_at-2.ensures ∙ e))
 
 pub returns : goal.returns
 returns c =
-    loose_found c.args.s.now c.args.from c.requires.1 (sym c.byte_at.ensures ∙ c.if-byte_at-ne34.false) _ c.label_run-end.ensures (sym c.byte_at-2.ensures ∙ c.if-byte_at-ne34-2.false)
+    loose_found c.args.s.now c.args.from c.requires.1 (sym c.byte_at.ensures ∙ c.if-byte_at-ne34.false) _ c.label_run-end.ensures
+    (sym c.byte_at-2.ensures ∙ c.if-byte_at-ne34-2.false)

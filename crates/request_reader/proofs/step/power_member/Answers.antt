@@ -1,19 +1,24 @@
 -- `step::power_member` meets its contract: a name, a colon and a run of digits.
-use Rattle.request_reader.proofs.ByteRuns.{digits_within}
+use mathlib.Core.List.{[], ◌∷◌}
+use Rattle.request.specs.Reading.{is_run}
+use Rattle.request.specs.Tokens.{is}
+use Rattle.request_reader.proofs.Walks.{missing_first}
 use Rattle.request_reader.proofs.StepReads.{power_lost, power_read}
 use Rattle.request_reader.proofs.step.power_member.Goals as goal
 
+pub returns-in_err-from : goal.returns-in_err-from
+returns-in_err-from c =
+    rw c.from_residual.ensures
+    (missing_first (is c.args.name.now ∷ is (58 ∷ []) ∷ []) (is_run ∷ []) c.args.s.now c.args.at c.in_err-from.ensures)
+
+pub digit_run-end-requires : goal.digit_run-end-requires
+digit_run-end-requires c = c.in_ok-from.ensures.within
+
 pub returns-then-end-from : goal.returns-then-end-from
 returns-then-end-from c =
-    power_lost c.args.name.now c.args.s.now c.args.at _ c.value_from-from.ensures _
-    c.digit_run-end.ensures _ c.if-end-from.true c.requires.0
-
-pub digits_power-requires : goal.digits_power-requires
-digits_power-requires c =
-    let r = c.digit_run-end.ensures in
-    (r.on, digits_within c.args.s.now c.value_from-from.result c.digit_run-end.result c.value_from-from.ensures.past.no_blank r c.if-end-from.false, c.requires.0)
+    power_lost c.args.name.now c.args.s.now c.args.at _ c.in_ok-from.ensures _ c.digit_run-end.ensures c.if-end-from.true
 
 pub returns : goal.returns
 returns c =
-    power_read c.args.name.now c.args.s.now c.args.at _ c.value_from-from.ensures _
+    power_read c.args.name.now c.args.s.now c.args.at _ c.in_ok-from.ensures _
     c.digit_run-end.ensures _ c.if-end-from.false c.digits_power.ensures

@@ -22,9 +22,6 @@ loop-rest-init c = (omega (arith, length_later c.args.n c.if-n-lt10000.false (om
 pub overflow_add-count : goal.overflow_add-count
 overflow_add-count c = omega (arith, decimal_most c.args.n c.loop-rest.invariant.2, decimal_some c.loop-rest.rest, c.loop-rest.invariant.0)
 
-pub loop-rest-smaller : goal.loop-rest-smaller
-loop-rest-smaller c = omega arith
-
 pub loop-rest-preserved : goal.loop-rest-preserved
 loop-rest-preserved c = (omega (arith, length_more c.loop-rest.rest c.loop-rest-test.true c.loop-rest.invariant.1, c.loop-rest.invariant.0), omega arith, c.loop-rest.invariant.2)
 

@@ -1,14 +1,20 @@
 -- Each way through the fields.
-use Rattle.script.proofs.LineKinds.{advance_short, advance_read, advance_rest}
+use native.Mathlib.Omega.{arith}
+use Rattle.script.proofs.LineKinds.{dated, undated, first_bad, second_bad, advance_short, advance_read, advance_rest}
 use Rattle.script.proofs.reading.advance.Goals as goal
 
-pub returns-then-n-date : goal.returns-then-n-date
-returns-then-n-date c = advance_short _ _ c.field_end-date.ensures c.if-n-date.true
+pub returns-in_err-date : goal.returns-in_err-date
+returns-in_err-date c = rw c.from_residual.ensures (advance_short _ _ c.in_err-date.ensures (omega arith))
 
-pub returns-then-day-minute : goal.returns-then-day-minute
-returns-then-day-minute c =
-    advance_read _ _ c.field_end-date.ensures c.if-n-date.false _ _ c.day_in-day.ensures c.number_in-minute.ensures c.if-day-minute.true
+pub returns-in_err-day : goal.returns-in_err-day
+returns-in_err-day c =
+    let a = c.in_ok-date.ensures in
+    rw c.from_residual-in_err-day.ensures (advance_rest _ _ a.0 a.1 (first_bad _ (undated _ c.in_err-day.ensures)))
 
-pub returns-else-day-minute : goal.returns-else-day-minute
-returns-else-day-minute c =
-    advance_rest _ _ c.field_end-date.ensures c.if-n-date.false _ _ c.day_in-day.ensures c.number_in-minute.ensures c.if-day-minute.false
+pub returns-in_err-minute : goal.returns-in_err-minute
+returns-in_err-minute c =
+    let a = c.in_ok-date.ensures in
+    rw c.from_residual-in_err-minute.ensures (advance_rest _ _ a.0 a.1 (second_bad (dated _ _ c.in_ok-day.ensures).0 c.in_err-minute.ensures))
+
+pub returns : goal.returns
+returns c = let a = c.in_ok-date.ensures in advance_read _ _ a.0 a.1 (dated _ _ c.in_ok-day.ensures) c.in_ok-minute.ensures

@@ -1,9 +1,10 @@
--- Each way through the fields.
-use Rattle.script.proofs.LineKinds.{category_long, category_good}
+-- The category is the rest of the line, where no comma stands in it.
+use mathlib.Core.Path.{sym, ◌∙◌}
+use Rattle.script.proofs.LineKinds.{category_cut, category_whole}
 use Rattle.script.proofs.reading.category.Goals as goal
 
-pub returns-then-end-line : goal.returns-then-end-line
-returns-then-end-line c = category_long _ _ c.field_end-end.ensures c.if-end-line.true
+pub returns-then-has_byte : goal.returns-then-has_byte
+returns-then-has_byte c = category_cut _ c.requires.0 (sym c.has_byte.ensures ∙ c.if-has_byte.true)
 
 pub returns : goal.returns
-returns c = category_good _ _ c.field_end-end.ensures c.if-end-line.false
+returns c = category_whole _ c.requires.0 (sym c.has_byte.ensures ∙ c.if-has_byte.false)

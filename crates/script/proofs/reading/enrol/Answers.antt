@@ -1,22 +1,26 @@
 -- Each way through the fields.
-use Rattle.script.proofs.LineKinds.{enrol_short, enrol_shorter, enrol_long, enrol_good, enrol_bad}
+use native.Mathlib.Omega.{arith}
+use Rattle.script.proofs.LineKinds.{dated, undated, first_bad, second_bad, enrol_short, enrol_shorter, enrol_read, enrol_rest}
 use Rattle.script.proofs.reading.enrol.Goals as goal
 
-pub returns-then-n-code : goal.returns-then-n-code
-returns-then-n-code c = enrol_short _ _ c.code_end-code.ensures c.if-n-code.true
+pub returns-in_err-code : goal.returns-in_err-code
+returns-in_err-code c = rw c.from_residual.ensures (enrol_short _ _ c.in_err-code.ensures (omega arith))
 
-pub returns-then-n-date : goal.returns-then-n-date
-returns-then-n-date c = enrol_shorter _ _ c.code_end-code.ensures _ c.field_end-date.ensures c.if-n-date.true
+pub returns-in_err-date : goal.returns-in_err-date
+returns-in_err-date c =
+    rw c.from_residual-in_err-date.ensures (enrol_shorter _ _ c.in_ok-code.ensures.0 _ c.in_err-date.ensures (omega arith))
 
-pub returns-then-end-n : goal.returns-then-end-n
-returns-then-end-n c = enrol_long _ _ c.code_end-code.ensures _ c.field_end-date.ensures _ c.field_end-end.ensures c.if-end-n.true
+pub returns-in_err-first : goal.returns-in_err-first
+returns-in_err-first c =
+    let b = c.in_ok-date.ensures in
+    rw c.from_residual-in_err-first.ensures (enrol_rest _ _ c.in_ok-code.ensures.0 _ b.0 b.1 (first_bad _ (undated _ c.in_err-first.ensures)))
 
-pub returns-then-first-last : goal.returns-then-first-last
-returns-then-first-last c =
-    let a = c.code_end-code.ensures in
-    enrol_good _ _ a _ c.field_end-date.ensures _ c.field_end-end.ensures c.if-end-n.false _ _ c.day_in-first.ensures c.day_in-last.ensures c.if-first-last.true
+pub returns-in_err-last : goal.returns-in_err-last
+returns-in_err-last c =
+    let b = c.in_ok-date.ensures in
+    rw c.from_residual-in_err-last.ensures (enrol_rest _ _ c.in_ok-code.ensures.0 _ b.0 b.1 (second_bad (dated _ _ c.in_ok-first.ensures).0 (undated _ c.in_err-last.ensures)))
 
-pub returns-else-first-last : goal.returns-else-first-last
-returns-else-first-last c =
-    let a = c.code_end-code.ensures in
-    enrol_bad _ _ a _ c.field_end-date.ensures _ c.field_end-end.ensures c.if-end-n.false _ _ c.day_in-first.ensures c.day_in-last.ensures c.if-first-last.false
+pub returns : goal.returns
+returns c =
+    let b = c.in_ok-date.ensures in
+    enrol_read _ _ c.in_ok-code.ensures.0 _ b.0 b.1 (dated _ _ c.in_ok-first.ensures) (dated _ _ c.in_ok-last.ensures)

@@ -1,22 +1,15 @@
 -- A comma, and a letter or a number.
 use native.Mathlib.Omega.{arith}
 use lib.ListN.{length-set}
-use Rattle.writer.proofs.Placed.{placed_length}
 use Rattle.script.proofs.Decimals.{decimal_few}
 use Rattle.script.proofs.AnswerLines.{letter_placed, number_placed}
 use Rattle.script.proofs.writing.put_value.Goals as goal
-
-pub bounds-out-at-then-letter : goal.bounds-out-at-then-letter
-bounds-out-at-then-letter c = simp length-set (omega (arith, c.requires))
 
 pub returns-then-letter : goal.returns-then-letter
 returns-then-letter c = (letter_placed _ _ _ _ c.if-letter.true, omega arith)
 
 pub put_number-requires : goal.put_number-requires
 put_number-requires c = simp length-set (omega (arith, c.requires, decimal_few c.args.v (omega arith)))
-
-pub shape_of-out : goal.shape_of-out
-shape_of-out c = simp length-set at (placed_length c.put_number.ensures)
 
 pub returns : goal.returns
 returns c = number_placed _ _ _ _ _ _ c.if-letter.false (omega arith) c.put_number.ensures

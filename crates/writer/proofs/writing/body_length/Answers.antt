@@ -3,14 +3,8 @@ use borrow.Author.Rules.{rules}
 use mathlib.Core.Path.{◌≡◌}
 use lib.ListN.{length}
 use native.Mathlib.Omega.{arith}
-use Rattle.notification.proofs.Lengths.{formed_parts}
 use Rattle.writer.proofs.Pieces.{ranged_powers, body_sum}
 use Rattle.writer.proofs.writing.body_length.Goals as goal
-
-pub overflow_add-head : goal.overflow_add-head
-overflow_add-head c =
-    let f = formed_parts c.args.n.key c.requires.0 in
-    omega (arith, f.category_most, c.category_length-head.ensures.1)
 
 pub lines_length-requires : goal.lines_length-requires
 lines_length-requires c =

@@ -3,34 +3,27 @@ use mathlib.Core.Path.{refl, ap, ◌∙◌}
 use native.Mathlib.Omega.{arith}
 use lib.ListN.{length, take}
 use Rattle.writer.specs.Placing.{step_text, step_texts}
-use Rattle.writer.proofs.StepTexts.{sum_more, sum_fits, sum_all, step_power}
+use Rattle.writer.proofs.StepTexts.{sum_more, sum_fits, sum_all}
 use Rattle.writer.proofs.Pieces.{lines_texts, line_most_lem}
 use Rattle.writer.proofs.writing.lines_length.Goals as goal
 
 pub loop-k-init : goal.loop-k-init
 unfolding step_texts
-loop-k-init c = (omega arith, refl)
-
-pub bounds-powers-k : goal.bounds-powers-k
-bounds-powers-k c = omega (arith, c.requires.there)
-
-pub line_length-sum-requires : goal.line_length-sum-requires
-line_length-sum-requires c =
-    (c.loop-k-test.true, c.requires.few, step_power c.args.steps c.args.powers.now c.requires c.loop-k.k c.loop-k-test.true)
+loop-k-init c = refl
 
 pub overflow_add-sum : goal.overflow_add-sum
 overflow_add-sum c =
     let l = c.loop-k in
     omega
-    (arith, c.requires.few, sum_fits (step_text c.args.steps) c.args.steps c.args.powers.now c.requires l.k c.loop-k-test.true 26 (line_most_lem c.args.steps) l.sum c.line_length-sum.result l.invariant.1 c.line_length-sum.ensures)
+    (arith, c.requires.few, sum_fits (step_text c.args.steps) c.args.steps c.args.powers.now c.requires l.k c.loop-k-test.true 26 (line_most_lem c.args.steps) l.sum c.line_length-sum.result l.invariant c.line_length-sum.ensures)
 
 pub loop-k-preserved : goal.loop-k-preserved
 loop-k-preserved c =
     let l = c.loop-k in
-    (omega arith, sum_more (step_text c.args.steps) c.args.steps c.args.powers.now c.requires l.k c.loop-k-test.true l.sum c.line_length-sum.result l.invariant.1 c.line_length-sum.ensures)
+    sum_more (step_text c.args.steps) c.args.steps c.args.powers.now c.requires l.k c.loop-k-test.true l.sum c.line_length-sum.result l.invariant c.line_length-sum.ensures
 
 pub returns : goal.returns
 returns c =
     let l = c.loop-k in
-    sum_all (step_text c.args.steps) c.args.steps c.args.powers.now c.requires l.sum l.k l.invariant.0 c.loop-k-test.false l.invariant.1
+    sum_all (step_text c.args.steps) c.args.steps c.args.powers.now c.requires l.sum l.k l.auto.k-end c.loop-k-test.false l.invariant
     ∙ ap length (lines_texts c.args.steps 0 (take c.args.steps c.args.powers.now))

@@ -1,13 +1,6 @@
 -- `writing::name_length` meets its contract: all but the category has a fixed length.
-use native.Mathlib.Omega.{arith}
 use Rattle.writer.proofs.Pieces.{name_sum}
 use Rattle.writer.proofs.writing.name_length.Goals as goal
-
-pub overflow_add-result : goal.overflow_add-result
-overflow_add-result c =
-    let n = c.category_length in
-    let s = name_sum c.args.key n.result c.requires n.ensures.1 in
-    omega (arith, s.1)
 
 pub returns : goal.returns
 returns c = let n = c.category_length in (name_sum c.args.key n.result c.requires n.ensures.1).0

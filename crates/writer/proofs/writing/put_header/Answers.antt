@@ -1,8 +1,5 @@
 -- `writing::put_header` meets its contract: the pieces of a header and LF, one after the other.
 use native.Mathlib.Omega.{arith}
-use mathlib.Core.Path.{sym}
-use lib.ListN.{length-set}
-use lib.Seq.{length-take-le}
 use Rattle.writer.proofs.Pieces.{room_parts, room_last, room_LF, header_placed}
 use Rattle.writer.proofs.writing.put_header.Goals as goal
 
@@ -10,9 +7,6 @@ pub put_start-second-requires : goal.put_start-second-requires
 put_start-second-requires c =
     let n = c.category_length-n in
     room_parts c.args.key c.args.buffer.now c.requires _ n.ensures.0
-
-pub slice_bounds-put_ended-end : goal.slice_bounds-put_ended-end
-slice_bounds-put_ended-end c = sym (length-take-le _ _ c.category_length-n.ensures.2)
 
 pub put_ended-end-requires : goal.put_ended-end-requires
 put_ended-end-requires c =
@@ -30,12 +24,6 @@ overflow_add-result c =
     let n = c.category_length-n in
     let e = room_LF c.args.key c.args.buffer.now c.requires _ n.ensures.0 _ _ c.put_start-second.ensures _ _ c.put_ended-end.ensures in
     omega (arith, e.0, e.1, c.well_formed.0)
-
-pub shape_of-buffer : goal.shape_of-buffer
-shape_of-buffer c =
-    let n = c.category_length-n in
-    simp length-set
-    (room_LF c.args.key c.args.buffer.now c.requires _ n.ensures.0 _ _ c.put_start-second.ensures _ _ c.put_ended-end.ensures).1
 
 pub returns : goal.returns
 returns c =

@@ -1,18 +1,14 @@
 -- `writing::put_lines` meets its contract: so far as it has come, the lines are put.
-use native.Mathlib.Omega.{arith}
 use lib.ListN.{take}
 use Rattle.writer.specs.Placing.{step_text, step_texts}
-use Rattle.writer.proofs.Placed.{placed_none, placed_length}
+use Rattle.writer.proofs.Placed.{placed_none}
 use Rattle.writer.proofs.StepTexts.{step_power, step_room, step_placed, texts_placed}
 use Rattle.writer.proofs.Pieces.{lines_texts}
 use Rattle.writer.proofs.writing.put_lines.Goals as goal
 
 pub loop-k-init : goal.loop-k-init
 unfolding step_texts
-loop-k-init c = (omega arith, placed_none c.args.buffer.now c.args.at)
-
-pub bounds-powers-k : goal.bounds-powers-k
-bounds-powers-k c = omega (arith, c.requires.0.there)
+loop-k-init c = placed_none c.args.buffer.now c.args.at
 
 pub put_line-next-requires : goal.put_line-next-requires
 put_line-next-requires c =
@@ -21,7 +17,7 @@ put_line-next-requires c =
       h,
       c.requires.0.few,
       step_power c.args.steps c.args.powers.now c.requires.0 l.k h,
-      step_room (step_text c.args.steps) c.args.steps c.args.powers.now c.requires.0 l.k h _ _ _ _ l.invariant.1
+      step_room (step_text c.args.steps) c.args.steps c.args.powers.now c.requires.0 l.k h _ _ _ _ l.invariant
           (rw (← lines_texts c.args.steps 0 (take c.args.steps c.args.powers.now)) at c.requires.1),
     )
 
@@ -29,13 +25,10 @@ pub loop-k-preserved : goal.loop-k-preserved
 loop-k-preserved c =
     let l = c.loop-k in
     let h = c.loop-k-test.true in
-    (omega arith, step_placed (step_text c.args.steps) c.args.steps c.args.powers.now c.requires.0 l.k h _ _ _ _ l.invariant.1 _ _ c.put_line-next.ensures)
-
-pub shape_of-buffer : goal.shape_of-buffer
-shape_of-buffer c = placed_length c.loop-k.invariant.1
+    step_placed (step_text c.args.steps) c.args.steps c.args.powers.now c.requires.0 l.k h _ _ _ _ l.invariant _ _ c.put_line-next.ensures
 
 pub returns : goal.returns
 returns c =
     let l = c.loop-k in
     rw (lines_texts c.args.steps 0 (take c.args.steps c.args.powers.now)) at
-    (texts_placed (step_text c.args.steps) c.args.steps c.args.powers.now c.requires.0 _ _ _ _ l.k l.invariant.0 c.loop-k-test.false l.invariant.1)
+    (texts_placed (step_text c.args.steps) c.args.steps c.args.powers.now c.requires.0 _ _ _ _ l.k l.auto.k-end c.loop-k-test.false l.invariant)

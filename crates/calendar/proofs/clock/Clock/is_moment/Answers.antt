@@ -5,6 +5,3 @@ use Rattle.calendar.proofs.clock.Clock.is_moment.Goals as goal
 
 pub overflow_mul-result : goal.overflow_mul-result
 overflow_mul-result c = omega (arith, c.steps_of-steps.ensures, steps_small c.args.self.day)
-
-pub returns : goal.returns
-returns c = rw c.steps_of-steps.ensures

@@ -1,5 +1,0 @@
--- A field each.
-use Rattle.reader.proofs.tally.fault.Goals as goal
-
-pub returns : goal.returns
-returns c = cc
