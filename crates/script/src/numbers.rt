@@ -109,6 +109,7 @@ pub(crate) fn count_in(line: &[u8], from: usize) -> Option<usize>
     let n = line.len();
     let mut count: usize = 0;
     let mut at = from;
+    // Each turn passes a field, of its own length.
     while at <= n {
         let numeral = numeral_from(line, at);
         if numeral.number.is_none() {
