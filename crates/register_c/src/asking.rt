@@ -1,4 +1,4 @@
-// The read-only calls.
+// The read-only calls. Each column is a parameter of its own, as C lends them.
 ghost use Rattle.std.specs.Prelude.{◌≡◌, List, ℕ, length};
 ghost use Rattle.ledger.specs.Asking.{ask_engagement, ask_record, ask_history, history_in};
 ghost use Rattle.answers.specs.Values.{said_number};

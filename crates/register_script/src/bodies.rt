@@ -20,6 +20,7 @@ fn read_to_end(
 ) -> io::Result<Result<Notification, Refusal>> {
     let mut reader = FileReader::begin(name);
     let mut done: usize = 0;
+    // Each turn takes as many bytes as come.
     while done < BODY {
         let n = read_some(rt, &mut file, &mut *part)?;
         let fed = reader.feed(&part[..n]);

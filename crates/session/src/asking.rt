@@ -11,7 +11,7 @@ use answers::{Said, of_number, of_shown, refused};
 use script::parts::{first_text, second_text};
 use script::reading::{Kind, Line};
 
-// What a line of no known form is refused by.
+// What a line of no known form is refused by: a number of the program's own, as no call of the register refuses by it.
 pub(crate) const NO_CALL: u32 = 11;
 
 // What a line says that asks for an engagement, by what was read of it.
