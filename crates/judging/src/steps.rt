@@ -16,12 +16,9 @@ fn first_below(left: [u32; 50], right: [u32; 50], first: u32, until: u32) -> u32
     requires { (first ≤ until) × (until ≤ 50) }
     ensures { result ≡ first_from (below_at left right) first (until - first) }
 {
-    for s in first..until {
-        if left[s as usize] < right[s as usize] {
-            return s;
-        }
-    }
-    until
+    (first..until)
+        .find(|s| left[*s as usize] < right[*s as usize])
+        .unwrap_or(until)
 }
 
 // A number and the power at each step.
