@@ -9,7 +9,7 @@ use Rattle.std.proofs.Common.{◌≡◌, ℕ, suc, ◌+◌, ◌<◌, ◌≤◌, 
 use lib.Seq.{sets}
 use Rattle.notification.specs.Reading.{lines_in, read_file}
 use Rattle.std.specs.Prelude.{Option, Some, None, MatchOption}
-use Rattle.notification.specs.declared.Reading.{Reading}
+use Rattle.session.specs.Lines.{Reading}
 use Rattle.reader.specs.InHand.{joined_pieces}
 use Rattle.reader.specs.declared.pieces.FileReader.{FileReader}
 use Rattle.reader.proofs.InPieces.{Fed, Ends, read_in_pieces}

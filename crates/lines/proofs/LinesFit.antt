@@ -5,22 +5,24 @@ use Rattle.lists.proofs.All.{All, all_none, all_more, all_map}
 use Rattle.calendar.specs.Clocks.{first_counted, replaces_whole}
 use Rattle.calendar.specs.declared.clock.Clock.{Clock}
 use Rattle.calendar.proofs.StepCounts.{steps_small}
-use Rattle.refusals.specs.Tests.{first_met, decide}
+use Rattle.refusals.specs.Tests.{first_met, decide, verdict}
+use Rattle.notification.specs.Reading.{note_of}
 use Rattle.refusals.proofs.Tests.{decided}
 use Rattle.notification.specs.declared.Notification.{Notification}
-use Rattle.notification.specs.declared.Reading.{Reading}
+use Rattle.session.specs.Lines.{Reading}
 use Rattle.ledger.specs.Ledger.{Key, Rec, Ledger, fresh, actor_at}
 use Rattle.ledger.specs.Call as Call
 use Rattle.ledger.specs.Calls.{Outcome, verdict_of, file_at, file_note, effect, refused_by, step_note, step}
 use Rattle.ledger.specs.Filing.{key_of, filing_tests, pairs, changed, deletes, answers, replaces, rule_one, rule_two, filed}
 use Rattle.ledger.specs.declared.Entry.{Entry}
 use Rattle.ledger.specs.declared.Entry.TheVariants.{SevenDays}
-use Rattle.ledger.specs.Asking.{engagement_tests, ask_engagement, no_record, record_at, record_tests, shown, not_shown, ask_record}
-use Rattle.ledger.specs.declared.Engaged.{Engaged}
+use Rattle.ledger.specs.Asking.{engagement_tests, ask_engagement, no_record, record_at, record_tests, shown, ask_record}
+use Rattle.refusals.specs.declared.Refusal.{Refusal}
+use Rattle.std.specs.Prelude.{Result, Ok, Err}
 use Rattle.ledger.specs.declared.Shown.{Shown}
 use Rattle.ledger.proofs.Passed.{FilingOk, filing_ok}
 use Rattle.ledger.proofs.Steps.{Kept, note_kept, step_kept, step_file}
-use Rattle.answers.specs.Values.{no_letter, said_of, said_engaged, said_shown}
+use Rattle.answers.specs.Values.{no_letter, said_of, said_number, said_shown}
 use Rattle.script.specs.Lines.{Asked, calls, file_of, engagement, record_of, unknown}
 use Rattle.std.specs.Prelude.{Some, None}
 use Rattle.session.specs.Lines.{File}
@@ -80,8 +82,8 @@ early_step l c e = step_kept l Early (early_kept l e) c
 
 early_reading : (l : Ledger) (u : List ℕ) (x : Reading) → Early l → Early (step_reading l u x).ledger
 early_reading l u x e =
-    decided (λ o. Early o.ledger) x.verdict (step_note l SevenDays u x.notification) (refused_by l)
-    (λ p. note_kept l Early (early_kept l e) SevenDays u x.notification) (λ r p. e)
+    decided (λ o. Early o.ledger) (verdict x) (step_note l SevenDays u (note_of x)) (refused_by l)
+    (λ p. note_kept l Early (early_kept l e) SevenDays u (note_of x)) (λ r p. e)
 
 pub early_fresh : Early fresh
 early_fresh = all_none
@@ -98,10 +100,10 @@ note_short l entry u n =
     (λ e. ok_filed _ _ _ (counted_soon l u n (filing_ok l entry u n e))) (λ r e. refusal_short r)
 
 reading_short : (l : Ledger) (entry : Entry) (u : List ℕ) (x : Reading) →
-    SaysShort (decide x.verdict (step_note l entry u x.notification) (refused_by l))
+    SaysShort (decide (verdict x) (step_note l entry u (note_of x)) (refused_by l))
 reading_short l entry u x =
-    decided SaysShort x.verdict (step_note l entry u x.notification) (refused_by l)
-    (λ e. note_short l entry u x.notification) (λ r e. refusal_short r)
+    decided SaysShort (verdict x) (step_note l entry u (note_of x)) (refused_by l)
+    (λ e. note_short l entry u (note_of x)) (λ r e. refusal_short r)
 
 step_short : (l : Ledger) (c : Call.Call) → SaysShort (step l c)
 unfolding step effect
@@ -115,10 +117,10 @@ step_short l (Call.file entry u form) = subst SaysShort (sym (step_file l entry 
 step_short l (Call.advance day minute) =
     decided SaysShort (verdict_of l (Call.advance day minute)) (effect l (Call.advance day minute)) (refused_by l) (λ e. ok_none no_letter 0 0 0) (λ r e. refusal_short r)
 
-engaged_short : (l : Ledger) (actor category : List ℕ) (day s : ℕ) → Short (said_engaged (ask_engagement l actor category day s))
+engaged_short : (l : Ledger) (actor category : List ℕ) (day s : ℕ) → Short (said_number (ask_engagement l actor category day s))
 unfolding ask_engagement
 engaged_short l actor category day s =
-    decided (λ (y : Engaged). Short (said_engaged y)) (first_met (engagement_tests l actor category day s)) _ _ (λ e. ok_one no_letter _ 0 0) (λ r e. refusal_short r)
+    decided (λ (y : Result ℕ Refusal). Short (said_number y)) (first_met (engagement_tests l actor category day s)) _ _ (λ e. ok_one no_letter _ 0 0) (λ r e. refusal_short r)
 
 soon_at : (rs : List Rec) → All Soon rs → (i : ℕ) → Soon (get_or rs i no_record)
 soon_at [] all_none i = omega arith
@@ -128,7 +130,7 @@ soon_at (r ∷ rs) (all_more h a) (suc i) = soon_at rs a i
 shown_short : (l : Ledger) (asker : List ℕ) (id : ℕ) → Early l → Short (said_shown (ask_record l asker id))
 unfolding ask_record
 shown_short l asker id h =
-    decided (λ (y : Shown). Short (said_shown y)) (first_met (record_tests l asker id)) (shown l (get_or l.records (record_at l.records id) no_record)) not_shown
+    decided (λ (y : Result Shown Refusal). Short (said_shown y)) (first_met (record_tests l asker id)) (Ok (shown l (get_or l.records (record_at l.records id) no_record))) Err
     (λ e. ok_shown _ _ _ (soon_at l.records h (record_at l.records id))) (λ r e. refusal_short r)
 
 -- A LINE leaves such a ledger, and says something short

@@ -6,7 +6,7 @@ use Rattle.lists.proofs.Tests.{by_test}
 use Rattle.lists.proofs.Parts.{drop_past}
 use Rattle.notification.specs.Reading.{lines_in, read_file}
 use Rattle.std.specs.Prelude.{Option, Some, None, ⊤}
-use Rattle.notification.specs.declared.Reading.{Reading}
+use Rattle.session.specs.Lines.{Reading}
 use Rattle.ledger.specs.Ledger.{Ledger}
 use Rattle.ledger.specs.Call.{csv, read_form}
 use Rattle.ledger.specs.Calls.{Outcome}

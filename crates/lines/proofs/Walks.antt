@@ -2,10 +2,8 @@
 use Rattle.std.proofs.Common.{◌≡◌, ℕ, ◌+◌, ◌-◌, ◌<◌, ◌≤◌, Bool, true, false, eqb, List, [], ◌∷◌, length, take, drop, sym, refl, ap, ap₂, ◌∙◌, subst, arith, length-drop, drop_of_length-le, length-take-le, drop-drop, ne_eqb, leb, leb-true, leb-false}
 use Rattle.lists.proofs.Tests.{by_test}
 use Rattle.notification.specs.Reading.{lines_in}
-use Rattle.std.specs.Prelude.{Option, Some, None}
-use Rattle.notification.specs.declared.Reading.{Reading}
-use Rattle.refusals.specs.declared.Verdict.{Verdict}
-use Rattle.refusals.specs.declared.Verdict.TheVariants.{Pass, No}
+use Rattle.std.specs.Prelude.{Option, Some, None, Ok, Err}
+use Rattle.session.specs.Lines.{Reading}
 use Rattle.reader.specs.Walking.{LineEnd}
 use Rattle.reader.proofs.Ends.{lines_here, lines_over}
 use Rattle.ledger.specs.declared.Entry.TheVariants.{SevenDays}
@@ -56,18 +54,18 @@ module _ (line : List ℕ) {form : Line} (w : form ≡ line_read line) (r : Regi
 -- ---- a step of the walk
 
 -- a filing's step is that of the ledger, and so is a line's
-filed_step : (r : Register) (u : List ℕ) (x : Reading) (v : Verdict) → x.verdict ≡ v →
+filed_step : (r : Register) (u : List ℕ) (x : Reading) →
     filed (held r) u x
     ≡ record { ledger = (told (does_reading r SevenDays u x)).ledger; said = (told (does_reading r SevenDays u x)).said }
-filed_step r u x Pass e = rw e refl
-filed_step r u x (No f) e = rw e refl
+filed_step r u (Ok n) = refl
+filed_step r u (Err f) = refl
 
 says_step : (r : Register) (file : File) (a : Asked) →
     says_read (held r) file a
     ≡ record { ledger = (line_step r file a).ledger; said = (line_step r file a).said }
 unfolding says_read line_step
 says_step r file (calls c) = refl
-says_step r (Some reading) (file_of submitter name) = filed_step r submitter reading _ refl
+says_step r (Some reading) (file_of submitter name) = filed_step r submitter reading
 says_step r None (file_of submitter name) = refl
 says_step r file (engagement actor category day s) = refl
 says_step r file (record_of asker id) = refl

@@ -5,7 +5,7 @@ use borrow.Author.Tests.{eqb-false}
 use Rattle.lists.proofs.Tests.{by_test, true_false}
 use Rattle.lists.proofs.Parts.{drop_past}
 use Rattle.notification.specs.Reading.{lines_in}
-use Rattle.notification.specs.declared.Reading.{Reading}
+use Rattle.session.specs.Lines.{Reading}
 use Rattle.std.specs.Prelude.{Option, Some, None}
 use Rattle.ledger.specs.Call as Call
 use Rattle.ledger.specs.declared.Entry.TheVariants.{SevenDays}

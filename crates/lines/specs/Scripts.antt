@@ -5,7 +5,7 @@ use Rattle.ledger.specs.Call as Call
 use Rattle.ledger.specs.Calls.{step}
 use Rattle.ledger.specs.Asking.{ask_engagement, ask_record}
 use Rattle.answers.specs.declared.Said.{Said}
-use Rattle.answers.specs.Values.{said_of, said_engaged, said_shown, said_refused}
+use Rattle.answers.specs.Values.{said_of, said_number, said_shown, said_refused}
 use Rattle.script.specs.Lines.{Asked, calls, file_of, engagement, record_of, unknown, filing, line_of}
 use Rattle.script.specs.Answers.{answer_line}
 use Rattle.session.specs.Lines.{no_call}
@@ -56,7 +56,7 @@ says l said = record { ledger = l; said = said }
 unfoldable pub line_says : Ledger → Found → Asked → Line
 line_says l f (calls c) = called l c
 line_says l f (file_of submitter name) = cond f.readable (called l (filing submitter name f.body)) (says l (said_refused no_call))
-line_says l f (engagement actor category day s) = says l (said_engaged (ask_engagement l actor category day s))
+line_says l f (engagement actor category day s) = says l (said_number (ask_engagement l actor category day s))
 line_says l f (record_of asker id) = says l (said_shown (ask_record l asker id))
 line_says l f unknown = says l (said_refused no_call)
 

@@ -1,13 +1,14 @@
 -- How the lines of an input are walked: what the functions inside say.
 use Rattle.std.specs.Prelude.{◌≡◌, ℕ, suc, ◌+◌, ◌-◌, ◌%◌, ◌≤◌, ◌<◌, Bool, cond, ◌&&◌, List, [], ◌∷◌, length, take, drop, ◌==◌, nat_le, nat_lt, slice_set, Option, Some, None, unwrap_or, MatchOption}
 use Rattle.reader.specs.Walking.{LineEnd}
-use Rattle.refusals.specs.Tests.{decide}
-use Rattle.notification.specs.declared.Reading.{Reading}
+use Rattle.refusals.specs.Tests.{decide, verdict}
+use Rattle.notification.specs.Reading.{note_of}
+use Rattle.session.specs.Lines.{Reading}
 use Rattle.ledger.specs.Ledger.{Ledger}
 use Rattle.ledger.specs.Calls.{Outcome, refused_by, step_note}
 use Rattle.ledger.specs.Asking.{ask_engagement, ask_record}
 use Rattle.ledger.specs.declared.Entry.TheVariants.{SevenDays}
-use Rattle.answers.specs.Values.{said_of, said_engaged, said_shown, said_refused}
+use Rattle.answers.specs.Values.{said_of, said_number, said_shown, said_refused}
 use Rattle.register.specs.View.{Register, held}
 use Rattle.script.specs.Lines.{Asked, calls, file_of, engagement, record_of, unknown, line_of}
 use Rattle.script.specs.Spans.{cut}
@@ -43,7 +44,7 @@ ended_at input held = cond (is_last input held) (held + 1) 0
 
 -- the ledger that a filing leaves, and its answer
 abbrev pub step_reading : Ledger → List ℕ → Reading → Outcome
-step_reading l submitter x = decide x.verdict (step_note l SevenDays submitter x.notification) (refused_by l)
+step_reading l submitter x = decide (verdict x) (step_note l SevenDays submitter (note_of x)) (refused_by l)
 
 abbrev pub filed : Ledger → List ℕ → Reading → Line
 filed l submitter x = record { ledger = (step_reading l submitter x).ledger; said = said_of (step_reading l submitter x).answer }
@@ -53,7 +54,7 @@ unfoldable pub says_read : Ledger → File → Asked → Line
 says_read l file (calls c) = called l c
 says_read l (Some x) (file_of submitter name) = filed l submitter x
 says_read l None (file_of submitter name) = says l (said_refused no_call)
-says_read l file (engagement actor category day s) = says l (said_engaged (ask_engagement l actor category day s))
+says_read l file (engagement actor category day s) = says l (said_number (ask_engagement l actor category day s))
 says_read l file (record_of asker id) = says l (said_shown (ask_record l asker id))
 says_read l file unknown = says l (said_refused no_call)
 

@@ -72,7 +72,7 @@ pub fn answer_lines(
         let read = read_line(line);
         let said = if names_file(read.kind) {
             let Some(file) = given else {
-                let name = read.first as usize + 1;
+                let name = read.first + 1;
                 wants = Wants::File(at + name, stop);
                 break;
             };

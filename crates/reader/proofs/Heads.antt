@@ -1,100 +1,27 @@
--- The name's header at the beginning of a text, eight bytes at a time, and the lines after it.
+-- The name's header at the beginning of a text, and the lines after it.
 use mathlib.Core.Path.{◌≡◌, refl, sym, ap, ◌∙◌}
-use mathlib.Core.Bool.{Bool, true, false, ◌&&◌, ◌||◌}
-use mathlib.Core.List.{List, [], ◌∷◌, ◌++◌}
-use Prim.Native.Nat.{ℕ, zero, suc, ◌+◌, ◌-◌, ◌*◌, ◌<◌, ◌≤◌}
-use native.Mathlib.Numerals.{add-one}
+use mathlib.Core.Bool.{Bool, true, false, ◌||◌}
+use mathlib.Core.List.{List, [], ◌∷◌}
+use Prim.Native.Nat.{ℕ, ◌+◌, ◌-◌, ◌<◌, ◌≤◌}
 use native.Mathlib.Omega.{arith}
 use lib.Dec.{ltb, eqb}
-use lib.ListN.{length, get_or, take, drop, length-drop}
-use lib.Seq.{take-add, take-length, drop-cons, drop-drop, get_or-drop, length-take-le}
-use borrow.Author.Tests.{eqb-true, eqb-false, eq-eqb, ne_eqb}
+use lib.Pointwise.{pointwise}
+use lib.ListN.{length, take, drop, length-drop}
+use lib.Seq.{drop-drop}
+use borrow.Author.Tests.{eq-eqb, ne_eqb}
 use Rattle.lists.specs.Searches.{same}
 use Rattle.lists.proofs.Tests.{by_test, true_false}
+use Rattle.lists.proofs.Parts.{rest_all}
 use Rattle.lists.proofs.Searches.{same_refl, same_true}
-use Rattle.lists.proofs.Places.{same_more}
 use Rattle.notification.specs.Reading.{is_header, lines_in}
-use Rattle.reader.specs.Walking.{starts_with, eight_at, whole_to, LineEnd}
+use Rattle.reader.specs.Walking.{starts_with, whole_to, LineEnd}
 use Rattle.reader.specs.Folding.{Taken, take_step, take_steps, FileTaken, with_powers, other_header, take_line, take_lines}
 use Rattle.reader.specs.Folding.{is_headed, headed_by, past_header, take_text, rest_of_text}
 use Rattle.reader.specs.declared.lines.FileTally.{FileTally}
 use Rattle.reader.specs.declared.tally.Tally.{Tally}
+use Rattle.reader.proofs.SameTexts.{same_slices}
 use Rattle.reader.proofs.Starts.{starts_long}
 use Rattle.reader.proofs.Ends.{lines_here}
-use Rattle.notification.proofs.Tested.{and_assoc}
-use Rattle.reader.proofs.Marking.{peel}
-
--- ---- bytes as one number
-
--- the number that bytes give, the first of them the least
-worth : List ℕ → ℕ
-worth [] = 0
-worth (b ∷ s) = b + 256 * worth s
-
--- every byte of a text is one
-abbrev Small : List ℕ → Type 0
-Small s = (i : ℕ) → get_or s i 0 < 256
-
-worth_same : (s t : List ℕ) → Small s → Small t → length s ≡ length t → worth s ≡ worth t → s ≡ t
-unfolding worth
-worth_same [] [] h g l e = refl
-worth_same [] (c ∷ t) h g l e = absurd (omega arith)
-worth_same (b ∷ s) [] h g l e = absurd (omega arith)
-worth_same (b ∷ s) (c ∷ t) h g l e =
-    let p = peel b c (worth s) (worth t) (h 0) (g 0) e in
-    cc (p.0, worth_same s t (λ i. h (suc i)) (λ i. g (suc i)) (omega arith) p.1)
-
-small_take : (n : ℕ) (s : List ℕ) → Small s → Small (take n s)
-small_take zero s h i = omega arith
-small_take (suc n) [] h i = omega arith
-small_take (suc n) (b ∷ s) h zero = h 0
-small_take (suc n) (b ∷ s) h (suc i) = small_take n s (λ j. h (suc j)) i
-
-small_drop : (n : ℕ) (s : List ℕ) → Small s → Small (drop n s)
-small_drop n s h i = rw (get_or-drop n s i 0) (h (n + i))
-
--- the first byte from a place on, and the rest
-worth_first : (s : List ℕ) (n i j : ℕ) → j ≡ i + 1 → i < length s → worth (take (suc n) (drop i s)) ≡ get_or s i 0 + 256 * worth (take n (drop j s))
-unfolding worth
-worth_first s n i j e h = let k : suc i ≡ j = omega arith in rw (drop-cons s i 0 h, k)
-
-eight_worth : (s : List ℕ) (a : ℕ) → a + 8 ≤ length s → eight_at s a ≡ worth (take 8 (drop a s))
-eight_worth s a h =
-    let z : worth (take 0 (drop (a + 8) s)) ≡ 0 = unfold worth in refl in
-    omega (
-      arith,
-      z,
-      worth_first s 7 a (a + 1) (omega arith) (omega arith),
-      worth_first s 6 (a + 1) (a + 2) (omega arith) (omega arith),
-      worth_first s 5 (a + 2) (a + 3) (omega arith) (omega arith),
-      worth_first s 4 (a + 3) (a + 4) (omega arith) (omega arith),
-      worth_first s 3 (a + 4) (a + 4 + 1) (omega arith) (omega arith),
-      worth_first s 2 (a + 4 + 1) (a + 4 + 2) (omega arith) (omega arith),
-      worth_first s 1 (a + 4 + 2) (a + 4 + 3) (omega arith) (omega arith),
-      worth_first s 0 (a + 4 + 3) (a + 8) (omega arith) (omega arith),
-    )
-
--- the numbers are alike exactly where the bytes are
-pub eight_flag : (s t : List ℕ) (a i x y : ℕ) → Small s → Small t → a + 8 ≤ length s → i + 8 ≤ length t → x ≡ eight_at s a → y ≡ eight_at t i
-    → eqb x y ≡ same (take 8 (drop a s)) (take 8 (drop i t))
-eight_flag s t a i x y h g k l p q =
-    by_test (same u w)
-    (λ e. let n : x ≡ y = p ∙ (eight_worth s a k ∙ (ap worth (same_true u w e) ∙ sym (q ∙ eight_worth t i l))) in
-    eq-eqb x y n ∙ sym e)
-    (λ e. ne_eqb x y (λ n. true_false (same u w) (rw (alike n) (same_refl w)) e) ∙ sym e)
-  where
-    u : List ℕ
-    u = take 8 (drop a s)
-
-    w : List ℕ
-    w = take 8 (drop i t)
-
-    alike : x ≡ y → u ≡ w
-    alike n =
-        let lu : length u ≡ 8 = length-take-le 8 (drop a s) (rw length-drop (omega arith)) in
-        let lw : length w ≡ 8 = length-take-le 8 (drop i t) (rw length-drop (omega arith)) in
-        worth_same u w (small_take 8 (drop a s) (small_drop a s h)) (small_take 8 (drop i t) (small_drop i t g)) (lu ∙ sym lw)
-        (sym (eight_worth s a k) ∙ (sym p ∙ (n ∙ (q ∙ eight_worth t i l))))
 
 -- ---- a text that begins with the name's header
 
@@ -106,85 +33,12 @@ same_sym s t =
     (λ f. let i = same_true t s f in true_false (same s t) (rw i (same_refl s)) e)
     (λ f. e ∙ sym f))
 
-and_again : (a b : Bool) → ((a && b) && b) ≡ (a && b)
-and_again true true = refl
-and_again true false = refl
-and_again false b = refl
-
-same_append : (s t p q : List ℕ) → length s ≡ length t → same (s ++ p) (t ++ q) ≡ (same s t && same p q)
-unfolding same
-same_append [] [] p q e = refl
-same_append [] (c ∷ t) p q e = absurd (omega arith)
-same_append (b ∷ s) [] p q e = absurd (omega arith)
-same_append (b ∷ s) (c ∷ t) p q e =
-    ap (λ (x : Bool). eqb b c && x) (same_append s t p q (omega arith)) ∙ sym (and_assoc (eqb b c) (same s t) (same p q))
-
-module _ (h s : List ℕ) (from : ℕ) where
-  abbrev text : List ℕ
-  text = drop from s
-
-  abbrev so_far : ℕ → Bool
-  so_far n = same (take n h) (take n text)
-
-  -- eight bytes more
-  eight_more : (n : ℕ) (g x : Bool) → n + 8 ≤ length h → from + length h ≤ length s → g ≡ so_far n
-      → x ≡ same (take 8 (drop n h)) (take 8 (drop (from + n) s)) → (g && x) ≡ so_far (n + 8)
-  eight_more n g x a b p q =
-      let lt : length text ≡ length s - from = length-drop from s in
-      let lh : length (take n h) ≡ n = length-take-le n h (omega arith) in
-      let lu : length (take n text) ≡ n = length-take-le n text (omega arith) in
-      rw (take-add n 8 h, take-add n 8 text, drop-drop n from s, p, q)
-      (sym (same_append (take n h) (take n text) (take 8 (drop n h)) (take 8 (drop (from + n) s)) (lh ∙ sym lu)))
-
-  -- a byte more
-  byte_more : (n : ℕ) (g : Bool) → n < length h → from + length h ≤ length s → g ≡ so_far n
-      → (g && eqb (get_or h n 0) (get_or s (from + n) 0)) ≡ so_far (n + 1)
-  byte_more n g a b p =
-      let lt : length text ≡ length s - from = length-drop from s in
-      rw (add-one, ← get_or-drop from s n 0, p) (sym (same_more h text n a (omega arith)))
-
-  pub headed_short : length s - from < length h → false ≡ starts_with h text
-  headed_short a =
-      by_test (starts_with h text)
-      (λ e. absurd (omega (arith, starts_long h text e, length-drop from s)))
-      (λ e. sym e)
-
-  pub headed_flag : 50 ≤ length h → length h ≤ 51 → from + length h ≤ length s → (g0 g1 g2 g3 g4 g5 : Bool)
-      → g0 ≡ same (take 8 (drop 0 h)) (take 8 (drop from s)) → g1 ≡ same (take 8 (drop 8 h)) (take 8 (drop (from + 8) s))
-      → g2 ≡ same (take 8 (drop 16 h)) (take 8 (drop (from + 16) s)) → g3 ≡ same (take 8 (drop 24 h)) (take 8 (drop (from + 24) s))
-      → g4 ≡ same (take 8 (drop 32 h)) (take 8 (drop (from + 32) s)) → g5 ≡ same (take 8 (drop 40 h)) (take 8 (drop (from + 40) s))
-      → (g0 && g1 && g2 && g3 && g4 && g5 && eqb (get_or h 48 0) (get_or s (from + 48) 0) && eqb (get_or h 49 0) (get_or s (from + 49) 0)
-      && eqb (get_or h (length h - 1) 0) (get_or s (from + (length h - 1)) 0))
-      ≡ starts_with h text
-  headed_flag a b l g0 g1 g2 g3 g4 g5 p0 p1 p2 p3 p4 p5 =
-      let e1 = eight_more 8 g0 g1 (omega arith) l p0 p1 in
-      let e2 = eight_more 16 (g0 && g1) g2 (omega arith) l e1 p2 in
-      let e3 = eight_more 24 (g0 && g1 && g2) g3 (omega arith) l e2 p3 in
-      let e4 = eight_more 32 (g0 && g1 && g2 && g3) g4 (omega arith) l e3 p4 in
-      let e5 = eight_more 40 (g0 && g1 && g2 && g3 && g4) g5 (omega arith) l e4 p5 in
-      let six = g0 && g1 && g2 && g3 && g4 && g5 in
-      let e6 = byte_more 48 six (omega arith) l e5 in
-      let b48 = eqb (get_or h 48 0) (get_or s (from + 48) 0) in
-      let e7 = byte_more 49 (six && b48) (omega arith) l e6 in
-      last_byte (six && b48) e7
-    where
-      whole : (g : Bool) → g ≡ so_far (length h) → g ≡ starts_with h text
-      whole g e = unfold starts_with in e ∙ (ap (λ (u : List ℕ). same u (take (length h) text)) (take-length h) ∙ same_sym h (take (length h) text))
-
-      longer : (length h ≡ 50 → ⊥) → length h ≡ 51
-      longer f = omega arith
-
-      last_byte : (g : Bool) → (g && eqb (get_or h 49 0) (get_or s (from + 49) 0)) ≡ so_far 50
-          → (g && eqb (get_or h 49 0) (get_or s (from + 49) 0) && eqb (get_or h (length h - 1) 0) (get_or s (from + (length h - 1)) 0)) ≡ starts_with h text
-      last_byte g e =
-          by_test (eqb (length h) 50)
-          (λ t. let n = eqb-true (length h) 50 t in
-          let m : length h - 1 ≡ 49 = omega arith in
-          whole _ (rw (m, n) (and_again g (eqb (get_or h 49 0) (get_or s (from + 49) 0)) ∙ e)))
-          (λ t. let f = eqb-false (length h) 50 t in
-          let n : length h ≡ 51 = longer f in
-          let m : length h - 1 ≡ 50 = omega arith in
-          whole _ (rw (m, n) (byte_more 50 (g && eqb (get_or h 49 0) (get_or s (from + 49) 0)) (omega arith) l e)))
+-- as the library says it
+pub headed_is : (h s : List ℕ) (from : ℕ) {r : Bool} → r ≡ pointwise eqb h (take (length h) (take (length s - from) (drop from s))) → r ≡ starts_with h (drop from s)
+unfolding starts_with
+headed_is h s from e =
+    let t = take (length h) (drop from s) in
+    same_slices h t (rw rest_all at e) ∙ same_sym h t
 
 -- ---- the name's header, where it comes first
 

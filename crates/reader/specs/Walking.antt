@@ -73,12 +73,9 @@ times_text =
 abbrev pub six_at : List ℕ → ℕ → ℕ
 six_at s i = six (get_or s i 0) (get_or s (i + 1) 0) (get_or s (i + 2) 0) (get_or s (i + 3) 0) (get_or s (i + 4) 0) (get_or s (i + 5) 0)
 
--- four and eight bytes at a place as one number
+-- four bytes at a place as one number
 abbrev pub four_at : List ℕ → ℕ → ℕ
 four_at s i = get_or s i 0 + 256 * (get_or s (i + 1) 0 + 256 * (get_or s (i + 2) 0 + 256 * get_or s (i + 3) 0))
-
-abbrev pub eight_at : List ℕ → ℕ → ℕ
-eight_at s i = four_at s i + four_at s (i + 4) * 4294967296
 
 -- the half hours since midnight that a boundary between steps is labelled with
 unfoldable pub half_hours : ℕ → ℕ → ℕ

@@ -23,7 +23,6 @@ use crate::reading::conclude;
 use crate::tally::Tally;
 use calendar::steps_of;
 use lists::bytes::byte_from;
-use lists::numbers::{least, least_length};
 use notification::forms::in_bytes;
 use notification::{Key, Notification};
 use refusals::trying::refuse_if;
@@ -127,7 +126,7 @@ fn first_bytes(s: &[u8], from: usize) -> [u8; 64]
     requires { from ≤ length s.now }
     ensures { take (length s.now - from) result ≡ take 64 (drop from s.now) }
 {
-    let n = least_length(s.len() - from, HELD as usize);
+    let n = (s.len() - from).min(HELD as usize);
     let first = &s[from..from + n];
     let mut line = [0u8; 64];
     line[..n].copy_from_slice(first);
@@ -140,8 +139,8 @@ fn whole_line(line: [u8; 64], held: u32, piece: &[u8], end: usize) -> WholeLine
     ensures text_value { take (result.length + 1) result.text ≡ gone_on (take held line) piece.now end ++ 10 ∷ [] }
     ensures length_value { (result.length ≡ length (gone_on (take held line) piece.now end)) × (result.length ≤ 64) }
 {
-    let n = least(held, HELD) as usize;
-    let more = least_length(end, HELD as usize - n);
+    let n = held.min(HELD) as usize;
+    let more = end.min(HELD as usize - n);
     let before = &line[..n];
     let after = &piece[..more];
     let mut text = [b'\n'; 65];
@@ -191,22 +190,19 @@ impl FileReader {
         ensures { in_hand result
             ≡ walked (in_hand self) total (with_powers tally powers) (drop from piece.now) }
     {
-        let header = self.header;
-        let named = least(self.named, LONGEST_HEADER);
-        let n = named as usize;
-        let steps = least(self.steps, STEPS);
+        let named = self.named.min(LONGEST_HEADER);
+        let steps = self.steps.min(STEPS);
+        let header = &self.header[..named as usize];
         let mut powers = powers;
-        let run = take_lines(tally, &header[..n], steps, piece, from, &mut powers);
-        let tally = run.tally;
-        let at = run.at;
+        let run = take_lines(tally, header, steps, piece, from, &mut powers);
         FileReader {
             steps,
             named,
             length: total,
-            tally,
+            tally: run.tally,
             powers,
-            held: least_length(piece.len() - at, HELD as usize) as u32,
-            line: first_bytes(piece, at),
+            held: (piece.len() - run.at).min(HELD as usize) as u32,
+            line: first_bytes(piece, run.at),
             ..self
         }
     }
@@ -218,32 +214,27 @@ impl FileReader {
             ≡ continued (in_hand self) total piece.now (byte_from 10 piece.now 0) }
     {
         let end = byte_from(piece, 0, b'\n');
-        let line = self.line;
-        let whole = whole_line(line, self.held, piece, end);
-        let text = whole.text;
+        let whole = whole_line(self.line, self.held, piece, end);
         if piece.len() <= end {
             return FileReader {
                 length: total,
                 held: whole.length,
-                line: first_bytes(&text, 0),
+                line: first_bytes(&whole.text, 0),
                 ..self
             };
         }
-        let header = self.header;
-        let n = least(self.named, LONGEST_HEADER) as usize;
-        let m = whole.length as usize + 1;
-        let tally = self.tally;
+        let n = self.named.min(LONGEST_HEADER) as usize;
+        let line = &whole.text[..whole.length as usize + 1];
         let mut powers = self.powers;
         let run = take_lines(
-            tally,
-            &header[..n],
-            least(self.steps, STEPS),
-            &text[..m],
+            self.tally,
+            &self.header[..n],
+            self.steps.min(STEPS),
+            line,
             0,
             &mut powers,
         );
-        let taken = run.tally;
-        self.walk(total, taken, powers, piece, end + 1)
+        self.walk(total, run.tally, powers, piece, end + 1)
     }
 
     // A piece more: each is handed in once, cut anywhere.
@@ -258,9 +249,7 @@ impl FileReader {
             };
         }
         if self.held == 0 {
-            let tally = self.tally;
-            let powers = self.powers;
-            return self.walk(total, tally, powers, piece, 0);
+            return self.walk(total, self.tally, self.powers, piece, 0);
         }
         self.go_on(total, piece)
     }
@@ -272,11 +261,8 @@ impl FileReader {
         refuse_if(self.named < SHORTEST_HEADER, InputRefusal::Name)?;
         let whole = (1 <= self.length) & (self.length <= MOST_BYTES) & (self.held == 0);
         refuse_if(!whole, InputRefusal::Body)?;
-        let header = self.header;
-        let n = least(self.named, LONGEST_HEADER) as usize;
-        let key = key_of(&header[..n], self.day);
-        let tally = self.tally;
-        let powers = self.powers;
-        conclude(key, least(self.steps, STEPS), tally, powers)
+        let n = self.named.min(LONGEST_HEADER) as usize;
+        let key = key_of(&self.header[..n], self.day);
+        conclude(key, self.steps.min(STEPS), self.tally, self.powers)
     }
 }

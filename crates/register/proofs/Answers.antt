@@ -1,4 +1,5 @@
 -- What the engagement call and the history answer: the ledger's tests by the numbers that the register finds, and what is told where they pass.
+use Rattle.std.specs.Prelude.{Err, None, Option, Some, Ok, Result}
 use mathlib.Core.Path.{◌≡◌, sym, ap, ◌∙◌}
 use mathlib.Core.Bool.{not}
 use mathlib.Core.List.{List, [], ◌∷◌, ◌++◌}
@@ -10,21 +11,15 @@ use borrow.Author.Tests.{ltb-true, ltb-false, not-false}
 use Rattle.lists.specs.Sums.{sum_to}
 use Rattle.calendar.specs.Steps.{steps_of}
 use Rattle.calendar.proofs.StepCounts.{steps_day, steps_small}
-use Rattle.refusals.specs.Tests.{Test, state, first_met}
+use Rattle.refusals.specs.Tests.{Test, state, first_met, Verdict, pass}
 use Rattle.refusals.specs.declared.Refusal.{Refusal}
-use Rattle.refusals.specs.declared.Verdict.{Verdict}
-use Rattle.refusals.specs.declared.Verdict.TheVariants.{Pass, No}
 use Rattle.refusals.specs.declared.StateRefusal.TheVariants.{ActorUnknown, Full}
 use Rattle.refusals.proofs.Tests.{pass_all, tried_all, tried_first}
 use Rattle.notification.specs.Forms.{category_text}
 use Rattle.ledger.specs.Ledger.{actor_at, category_at, engagement, gained, loaded}
 use Rattle.ledger.specs.Asking.{ask_engagement, engagement_tests, engaged_at, history_of, history_tests, ask_history, history_in}
-use Rattle.ledger.specs.declared.Engaged.TheVariants as Asked
-use Rattle.ledger.specs.declared.Listed.{Listed}
-use Rattle.ledger.specs.declared.Listed.TheVariants as Ids
 use Rattle.tables.specs.Tables.{Columns, LoadColumns, actors_in, categories_in, load_number, loads_in, records_in}
 use Rattle.tables.specs.Passing.{last_load, load_row}
-use Rattle.tables.specs.declared.loads.Found.{Found}
 use Rattle.tables.proofs.LoadTable.{loaded_row}
 use Rattle.recording.specs.Recording.{gained_at, given_at}
 use Rattle.recording.specs.Ordering.{ids_below}
@@ -37,17 +32,17 @@ use Rattle.register.specs.View.{view}
 
 module _ (h : Head) (cols : Columns) (loads : LoadColumns) (actor category : List ℕ) (day s : ℕ) (v : Verdict)
     (ev : v ≡ first_met (engagement_tests (view h cols loads) actor category day s)) where
-  pub engaged_refused : (r : Refusal) → v ≡ No r → Asked.Refused r ≡ ask_engagement (view h cols loads) actor category day s
+  pub engaged_refused : (r : Refusal) → v ≡ Err r → Err r ≡ ask_engagement (view h cols loads) actor category day s
   unfolding ask_engagement
   engaged_refused r e = rw (← ev, e)
 
-  module _ (pass : v ≡ Pass) (a z : ℕ) (ea : a ≡ actor_at (actors_in h.actors) actor)
+  module _ (passed : v ≡ pass) (a z : ℕ) (ea : a ≡ actor_at (actors_in h.actors) actor)
       (ez : z ≡ category_at (categories_in h.categories) category) where
     -- what the tests leave to be known: places in their ranges, a day, and a step that has a place in a row
     pub engaged_in : (a < 8) × (z < 4) × (day < 36525) × (s < 50)
     unfolding engagement_tests view actors_in categories_in
     engaged_in =
-        let f = pass_all (engagement_tests (view h cols loads) actor category day s) (sym ev ∙ pass) in
+        let f = pass_all (engagement_tests (view h cols loads) actor category day s) (sym ev ∙ passed) in
         let i : a < length (actors_in h.actors) = rw ea (ltb-true _ _ (not-false _ f.0)) in
         let j : z < length (categories_in h.categories) = rw ez (ltb-true _ _ (not-false _ f.1.0)) in
         let k : s < steps_of day = ltb-true _ _ (not-false _ f.1.1.0) in
@@ -58,12 +53,12 @@ module _ (h : Head) (cols : Columns) (loads : LoadColumns) (actor category : Lis
         (omega arith, omega arith, steps_day day (omega arith), omega (arith, steps_small day))
 
     pub engaged_power : (p : ℕ) → p ≡ engagement (view h cols loads) a z day s →
-        Asked.Power p ≡ ask_engagement (view h cols loads) actor category day s
+        Ok p ≡ ask_engagement (view h cols loads) actor category day s
     unfolding ask_engagement engaged_at view
-    engaged_power p e = rw (← ev, pass, ← ea, ← ez) (ap Asked.Power e)
+    engaged_power p e = rw (← ev, passed, ← ea, ← ez) (ap Ok e)
 
 -- the engagement by the load's row and by what the records move
-pub engaged_by : (h : Head) (cols : Columns) (loads : LoadColumns) (a z day s number k w gain give : ℕ) (f : Found) (row : List ℕ) →
+pub engaged_by : (h : Head) (cols : Columns) (loads : LoadColumns) (a z day s number k w gain give : ℕ) (f : Option ℕ) (row : List ℕ) →
     a < 8 → z < 4 → number ≡ load_number a z day → f ≡ last_load loads.keys h.loads number → row ≡ load_row loads.rows f →
     w ≡ get_or row s 0 → k ≡ min h.records 256 → gain ≡ sum_to k (gained_at cols (day * 4 + z) a s) →
     give ≡ sum_to k (given_at cols (day * 4 + z) a s) → (w + gain) - give ≡ engagement (view h cols loads) a z day s
@@ -79,10 +74,12 @@ history_tried a n room count = (not (ltb a n), state ActorUnknown) ∷ (ltb room
 
 module _ (h : Head) (cols : Columns) (loads : LoadColumns) (actor buffer : List ℕ) (n a k count : ℕ)
     (en : length (actors_in h.actors) ≡ n) (ea : a ≡ actor_at (actors_in h.actors) actor) (ek : k ≡ min h.records 256)
-    (ec : count ≡ length (ids_below cols.keys cols.ids k a))
-    (v : Verdict) (ev : v ≡ tried_all Pass (history_tried a n (length buffer) count)) where
+    (ec : count ≡ length (ids_below cols.keys cols.ids k a)) where
+  abbrev tried : List Test
+  tried = history_tried a n (length buffer) count
+
   -- an answer, and what the buffer holds afterwards, are the ledger's
-  abbrev ListedBy : Listed → List ℕ → Type 0
+  abbrev ListedBy : Result ℕ Refusal → List ℕ → Type 0
   ListedBy r after =
       (r ≡ ask_history (view h cols loads) actor (length buffer)) × (after ≡ history_in (view h cols loads) actor buffer)
 
@@ -93,21 +90,18 @@ module _ (h : Head) (cols : Columns) (loads : LoadColumns) (actor buffer : List 
   unfolding view records_in
   history_ids = rw (← ea, ← ek) (ids_only cols k a)
 
-  history_is : v ≡ first_met (history_tests (view h cols loads) actor (length buffer))
+  history_is : first_met tried ≡ first_met (history_tests (view h cols loads) actor (length buffer))
   unfolding view history_tests
-  history_is = ev ∙ tried_first (history_tried a n (length buffer) count) ∙ rw (history_ids, en, ← ea, ← ec)
+  history_is = rw (history_ids, en, ← ea, ← ec)
 
-  pub listed_refused : (r : Refusal) → v ≡ No r → ListedBy (Ids.Refused r) buffer
+  pub listed_refused : (r : Refusal) → first_met tried ≡ Err r → ListedBy (Err r) buffer
   unfolding ask_history history_in
   listed_refused r e = (rw (← history_is, e), rw (← history_is, e))
 
-  module _ (pass : v ≡ Pass) where
+  module _ (passed : first_met tried ≡ pass) where
     pub listed_room : length listed ≤ length buffer
-    listed_room =
-        let ts = history_tried a n (length buffer) count in
-        let f = pass_all ts (sym (tried_first ts) ∙ sym ev ∙ pass) in
-        omega (arith, ltb-false (length buffer) count f.1.0)
+    listed_room = let f = pass_all tried passed in omega (arith, ltb-false (length buffer) count f.1.0)
 
-    pub listed_all : (after : List ℕ) → after ≡ listed ++ drop (length listed) buffer → ListedBy (Ids.Count count) after
+    pub listed_all : (after : List ℕ) → after ≡ listed ++ drop (length listed) buffer → ListedBy (Ok count) after
     unfolding ask_history history_in
-    listed_all after e = (rw (← history_is, pass, history_ids, ← ec), rw (← history_is, pass, history_ids) e)
+    listed_all after e = (rw (← history_is, passed, history_ids, ← ec), rw (← history_is, passed, history_ids) e)

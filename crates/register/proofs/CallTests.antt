@@ -1,4 +1,5 @@
 -- What the tests of a call come to for the ledger that a head holds, by what the code has found of each.
+use Rattle.std.specs.Prelude.{Err, None, Option, Some, is_some}
 use mathlib.Core.Path.{◌≡◌, refl, sym, ◌∙◌, ap}
 use mathlib.Core.Bool.{Bool, true, false, not, ◌&&◌, ◌||◌}
 use mathlib.Core.List.{List, [], ◌∷◌, ◌++◌}
@@ -11,9 +12,8 @@ use Rattle.lists.specs.Searches.{every}
 use Rattle.calendar.specs.Dates.{day_count}
 use Rattle.calendar.specs.Steps.{steps_of}
 use Rattle.calendar.specs.Clocks.{loadable}
-use Rattle.refusals.specs.Tests.{Test, input, state, first_met}
+use Rattle.refusals.specs.Tests.{Test, input, state, first_met, pass}
 use Rattle.refusals.specs.declared.Refusal.{Refusal}
-use Rattle.refusals.specs.declared.Verdict.TheVariants.{Pass, No}
 use Rattle.refusals.proofs.Tests.{pass_all, pass_append, refuse_append, tried_all, tried_first}
 use Rattle.refusals.specs.declared.InputRefusal.TheVariants.{Form, Range}
 use Rattle.refusals.specs.declared.StateRefusal.TheVariants.{CederUnknown, AcquirerUnknown, ActorUnknown, CategoryUnknown, NotParty, OneActor, Full, There, LoadDay}
@@ -25,10 +25,10 @@ use Rattle.ledger.specs.Filing.{party_tests}
 use Rattle.ledger.specs.Calls.{actor_tests, category_tests, load_ranged, load_tests}
 use Rattle.ledger.specs.Asking.{engagement_tests}
 use Rattle.tables.specs.Tables.{Columns, LoadColumns, columns, load_columns, actors_in, categories_in, loads_in, load_number}
-use Rattle.tables.specs.Passing.{last_load, is_at}
-use Rattle.tables.specs.declared.loads.Found.{Found}
+use Rattle.tables.specs.Passing.{last_load}
 use Rattle.tables.proofs.LoadTable.{loads_length, found_load}
 use Rattle.register.specs.View.{view}
+use Rattle.register.proofs.Trying.{room_is}
 use Rattle.register.specs.declared.Head.{Head}
 
 -- no columns, to ask what doesn't depend on them
@@ -44,6 +44,11 @@ not_not false = refl
 
 -- ---- the tests of each call, one after the other, by how many actors and categories there are
 
+abbrev pub named_tried : ℕ → ℕ → ℕ → ℕ → Bool → Bool → List Test
+named_tried n m a z ranged later =
+    (not ranged, input Range) ∷ (not (ltb a n), state ActorUnknown) ∷ (not (ltb z m), state CategoryUnknown)
+    ∷ (not later, state LoadDay) ∷ []
+
 module _ (h : Head) (cols : Columns) (loads : LoadColumns) where
   abbrev actor_tried : Bool → ℕ → ℕ → ℕ → ℕ → List Test
   actor_tried form first last n at =
@@ -52,7 +57,7 @@ module _ (h : Head) (cols : Columns) (loads : LoadColumns) where
 
   pub actor_is : (code : List ℕ) (first last n at : ℕ) (form : Bool) → length (actors_in h.actors) ≡ n →
       at ≡ actor_at (actors_in h.actors) code → form ≡ is_code code →
-      tried_all Pass (actor_tried form first last n at) ≡ first_met (actor_tests (view h cols loads) code first last)
+      tried_all pass (actor_tried form first last n at) ≡ first_met (actor_tests (view h cols loads) code first last)
   unfolding view actor_tests
   actor_is code first last n at form en ea ef =
       tried_first (actor_tried form first last n at) ∙ rw (en, ← ea, ← ef, not_not (ltb at n))
@@ -62,7 +67,7 @@ module _ (h : Head) (cols : Columns) (loads : LoadColumns) where
 
   pub category_is : (text : List ℕ) (n at : ℕ) (form : Bool) → length (categories_in h.categories) ≡ n →
       at ≡ category_at (categories_in h.categories) text → form ≡ is_category text →
-      tried_all Pass (category_tried form n at) ≡ first_met (category_tests (view h cols loads) text)
+      tried_all pass (category_tried form n at) ≡ first_met (category_tests (view h cols loads) text)
   unfolding view category_tests
   category_is text n at form en ea ef = tried_first (category_tried form n at) ∙ rw (en, ← ea, ← ef, not_not (ltb at n))
 
@@ -74,7 +79,7 @@ module _ (h : Head) (cols : Columns) (loads : LoadColumns) where
         ∷ (not (ltb by n), state ActorUnknown) ∷ (not (ltb k.category m), state CategoryUnknown)
         ∷ (not (eqb by k.ceder || eqb by k.acquirer), state NotParty) ∷ (eqb k.ceder k.acquirer, state OneActor) ∷ []
 
-    pub party_is : (k : Key) (by : ℕ) → tried_all Pass (party_tried k by) ≡ first_met (party_tests (view h cols loads) k by)
+    pub party_is : (k : Key) (by : ℕ) → tried_all pass (party_tried k by) ≡ first_met (party_tests (view h cols loads) k by)
     unfolding view party_tests
     party_is k by = tried_first (party_tried k by) ∙ rw (en, em)
 
@@ -85,16 +90,14 @@ module _ (h : Head) (cols : Columns) (loads : LoadColumns) where
           (not (ltb a n), state ActorUnknown) ∷ (not (ltb z m), state CategoryUnknown) ∷ (not (ltb s until), input Range) ∷ []
 
       pub engagement_is : (day s until : ℕ) → until ≡ steps_of day →
-          tried_all Pass (engagement_tried s until) ≡ first_met (engagement_tests (view h cols loads) actor category day s)
+          tried_all pass (engagement_tried s until) ≡ first_met (engagement_tests (view h cols loads) actor category day s)
       unfolding view engagement_tests
       engagement_is day s until eu = tried_first (engagement_tried s until) ∙ rw (en, em, ← ea, ← ez, ← eu)
 
       -- a load: 10, 22, 23, 39, then 37 and 36
       module _ (day most : ℕ) (ps : List ℕ) (ranged later : Bool) (er : ranged ≡ load_ranged day most ps) (el : later ≡ loadable h.clock day) where
         abbrev named : List Test
-        named =
-            (not ranged, input Range) ∷ (not (ltb a n), state ActorUnknown) ∷ (not (ltb z m), state CategoryUnknown)
-            ∷ (not later, state LoadDay) ∷ []
+        named = named_tried n m a z ranged later
 
         abbrev placed : List Test
         placed =
@@ -105,23 +108,22 @@ module _ (h : Head) (cols : Columns) (loads : LoadColumns) where
         unfolding view load_tests
         load_parts = rw (en, em, ← ea, ← ez, ← er, ← el)
 
-        pub load_refused : (f : Refusal) → tried_all Pass named ≡ No f → No f ≡ first_met (load_tests (view h cols loads) actor category day most ps)
-        load_refused f e = sym (refuse_append f named placed (sym (tried_first named) ∙ e)) ∙ load_parts
+        pub load_refused : (f : Refusal) → first_met named ≡ Err f → Err f ≡ first_met (load_tests (view h cols loads) actor category day most ps)
+        load_refused f e = sym (refuse_append f named placed e) ∙ load_parts
 
-        module _ (e : tried_all Pass named ≡ Pass) where
+        module _ (e : first_met named ≡ pass) where
           -- what is left to be known of it
           pub load_named : (ranged ≡ true) × (a < n) × (z < m)
           load_named =
-              let f = pass_all named (sym (tried_first named) ∙ e) in
+              let f = pass_all named e in
               (not-false ranged f.0, ltb-true a n (not-false _ f.1.0), ltb-true z m (not-false _ f.1.1.0))
 
-          pub load_is_lem : (k : ℕ) (there : Bool) → k ≡ min h.loads 64 → there ≡ has_load (loads_in h.loads loads) a z day →
-              tried_all Pass ((there, state There) ∷ (not (ltb k 64), state Full) ∷ [])
+          pub load_is_lem : (there : Bool) → there ≡ has_load (loads_in h.loads loads) a z day →
+              first_met ((there, state There) ∷ (not (ltb h.loads 64), state Full) ∷ [])
               ≡ first_met (load_tests (view h cols loads) actor category day most ps)
-          load_is_lem k there ek et =
-              tried_first ((there, state There) ∷ (not (ltb k 64), state Full) ∷ [])
-              ∙ rw (et, ek ∙ sym (loads_length h.loads loads))
-              (sym (pass_append named placed (sym (tried_first named) ∙ e)) ∙ load_parts)
+          load_is_lem there et =
+              rw (et, ← room_is h.loads 64, ← loads_length h.loads loads)
+              (sym (pass_append named placed e) ∙ load_parts)
 
 -- ---- the ranges of a load
 
@@ -158,7 +160,7 @@ module _ (day most : ℕ) (ps : List ℕ) where
 -- ---- what a load's tests have found
 
 -- what the search for a load's number finds tells whether there is such a load
-pub has_load_lem : (n : ℕ) (cols : LoadColumns) (a z d number : ℕ) (f : Found) → a < 8 → z < 4 → number ≡ load_number a z d →
-    f ≡ last_load cols.keys n number → is_at f ≡ has_load (loads_in n cols) a z d
+pub has_load_lem : (n : ℕ) (cols : LoadColumns) (a z d number : ℕ) (f : Option ℕ) → a < 8 → z < 4 → number ≡ load_number a z d →
+    f ≡ last_load cols.keys n number → is_some f ≡ has_load (loads_in n cols) a z d
 has_load_lem n cols a z d number f ha hz en ef =
-    ap is_at (ef ∙ ap (last_load cols.keys n) en) ∙ sym (found_load n cols a z d ha hz)
+    ap is_some (ef ∙ ap (last_load cols.keys n) en) ∙ sym (found_load n cols a z d ha hz)

@@ -1,5 +1,8 @@
 -- A filing can be made on every register whose arrays have their places: it is refused as it is read or judged, or its record and the changed
 -- records before it are put.
+use Rattle.notification.specs.Reading.{note_of}
+use Rattle.refusals.specs.declared.Refusal.{Refusal}
+use Rattle.std.specs.Prelude.{Err, Ok, Result}
 use mathlib.Core.Path.{◌≡◌, refl, sym, ◌∙◌, ap}
 use mathlib.Core.Bool.{Bool}
 use mathlib.Core.List.{List, []}
@@ -10,16 +13,12 @@ use lib.ListN.{length, get_or, length-set}
 use lib.Seq.{get_or-set_same, get_or-set_other}
 use Rattle.calendar.specs.Steps.{steps_of}
 use Rattle.calendar.specs.Clocks.{first_counted}
-use Rattle.refusals.specs.Tests.{first_met}
-use Rattle.refusals.specs.declared.Verdict.{Verdict}
-use Rattle.refusals.specs.declared.Verdict.TheVariants.{Pass, No}
+use Rattle.refusals.specs.Tests.{first_met, Verdict, pass, verdict}
 use Rattle.notification.specs.declared.Notification.{Notification}
-use Rattle.notification.specs.declared.Reading.{Reading}
 use Rattle.ledger.specs.Ledger.{actor_at}
-use Rattle.ledger.specs.Call.{Form, Call, csv, json, read_form, file}
+use Rattle.ledger.specs.Call.{Answered, Form, Call, csv, json, read_form, file}
 use Rattle.ledger.specs.Filing.{key_of, status_by, place_tests}
-use Rattle.ledger.specs.declared.Answer.{Answer}
-use Rattle.ledger.specs.declared.Answer.TheVariants.{Filed, Refused}
+use Rattle.ledger.specs.declared.Answer.TheVariants.{Filed}
 use Rattle.ledger.specs.declared.Entry.TheVariants.{SevenDays}
 use Rattle.tables.specs.Tables.{Columns, LoadColumns, key_number}
 use Rattle.recording.specs.Recording.{pairs_below}
@@ -40,7 +39,7 @@ use Rattle.register.proofs.Sized.{Sized, ref, ref_mut, Next}
 pub record Seen (r : Register) (d : Done) : Type 0 where
   pub head : Head
   pub columns : Columns
-  pub answer : Answer
+  pub answer : Answered
   pub sized : Sized (lent head columns r.loads)
   pub is : seen (lent head columns r.loads) answer ≡ d
 
@@ -91,8 +90,8 @@ module _ (r : Register) (u : List ℕ) (note : Notification) where
     abbrev filed : Register
     filed = lent (with_records h (n + 1)) left r.loads
 
-    abbrev answer : Answer
-    answer = Filed (n + 1) (status_by paired) first
+    abbrev answer : Answered
+    answer = Ok (Filed (n + 1) (status_by paired) first)
 
     many_statuses : length made.next ≡ 256
     many_statuses = ap length made.changes.new_statuses ∙ put_length _ cols.statuses n ∙ z.records.statuses
@@ -124,15 +123,15 @@ module _ (r : Register) (u : List ℕ) (note : Notification) where
   -- it is judged by its places
   by_places : Sized r → (v : Verdict) → v ≡ first_met (place_tests (held r) SevenDays (key_at at) at.submitter ps) →
       Seen r (does_note r SevenDays u note)
-  by_places z (No f) e =
+  by_places z (Err f) e =
       record {
         head = r.head;
         columns = r.columns;
-        answer = Refused f;
+        answer = Err f;
         sized = z;
-        is = note_refused r SevenDays u note at placed (No f) e f refl;
+        is = note_refused r SevenDays u note at placed (Err f) e f refl;
       }
-  by_places z Pass e =
+  by_places z (Ok u) e =
       let can = fileable_of r.head r.columns r.loads SevenDays at ps (sym e) in
       let s = z.records in
       let done = record_done r.head r.loads r.columns at ps _ _ _ _ _ (made z can).next (made z can).after can
@@ -142,18 +141,18 @@ module _ (r : Register) (u : List ℕ) (note : Notification) where
         columns = (filed z can).columns;
         answer = answer z can;
         sized = filed_sized z can;
-        is = note_passed r SevenDays u note at placed Pass e refl _ done;
+        is = note_passed r SevenDays u note at placed pass e refl _ done;
       }
 
 -- ---- a form, whichever
 
 -- what it was read as, whatever it was
-module _ (r : Register) (u : List ℕ) (x : Reading) where
-  by_reading : Sized r → (v : Verdict) → x.verdict ≡ v → Seen r (does_reading r SevenDays u x)
-  by_reading z (No f) e =
-      record { head = r.head; columns = r.columns; answer = Refused f; sized = z; is = reading_refused r SevenDays u x f e }
-  by_reading z Pass e =
-      let y = by_places r u x.notification z _ refl in
+module _ (r : Register) (u : List ℕ) (x : Result Notification Refusal) where
+  by_reading : Sized r → (v : Verdict) → verdict x ≡ v → Seen r (does_reading r SevenDays u x)
+  by_reading z (Err f) e =
+      record { head = r.head; columns = r.columns; answer = Err f; sized = z; is = reading_refused r SevenDays u x f e }
+  by_reading z (Ok u) e =
+      let y = by_places r u (note_of x) z _ refl in
       record { head = y.head; columns = y.columns; answer = y.answer; sized = y.sized; is = reading_passed r SevenDays u x e _ y.is }
 
   pub reading_seen : Sized r → Seen r (does_reading r SevenDays u x)
@@ -161,7 +160,7 @@ module _ (r : Register) (u : List ℕ) (x : Reading) where
 
 -- the called function ensures what the ledger does, of the head, the columns and the answer that a filing leaves
 abbrev Ensures : Register → Call → Type 1
-Ensures r c = (h : Head) (w : Columns) (y : Answer) → seen (lent h w r.loads) y ≡ does r c → Did r c y (lent h w r.loads)
+Ensures r c = (h : Head) (w : Columns) (y : Answered) → seen (lent h w r.loads) y ≡ does r c → Did r c y (lent h w r.loads)
 
 next_form : (r : Register) (u : List ℕ) (form : Form) → Ensures r (file SevenDays u form) → Sized r → Next r (file SevenDays u form)
 next_form r u form ensured z =

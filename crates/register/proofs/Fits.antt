@@ -1,4 +1,5 @@
 -- What ceder and acquirer would have at the counted steps: the tests 32 to 35 by the sums that the register makes.
+use Rattle.std.specs.Prelude.{None, Option, Some}
 use mathlib.Core.Path.{◌≡◌, refl, sym, ap, ap₂, ◌∙◌}
 use mathlib.Core.List.{List}
 use Prim.Native.Nat.{ℕ, ◌+◌, ◌≤◌, ◌<◌, min}
@@ -12,7 +13,6 @@ use Rattle.ledger.specs.Ledger.{Key, Ledger, loaded, approved}
 use Rattle.ledger.specs.Filing.{checks, ceder_below, acquirer_above, ceder_above, acquirer_below, step_tests}
 use Rattle.tables.specs.Tables.{Columns, LoadColumns, load_number, key_number, key_from, records_in}
 use Rattle.tables.specs.Passing.{last_load, load_row, load_most}
-use Rattle.tables.specs.declared.loads.Found.{Found}
 use Rattle.tables.proofs.LoadTable.{approved-most, loaded_row}
 use Rattle.tables.proofs.Keys.{key_unpacked}
 use Rattle.judging.specs.Nets.{base, Based, Netted}
@@ -25,7 +25,7 @@ use Rattle.register.specs.View.{view}
 use Rattle.register.specs.Judging.{key_at, Judgeable, NettedAt}
 
 -- what passing the records comes to, said of the head
-pub netted_at : (h : Head) (cols : Columns) (rows : List (List ℕ)) (f g : Found) (at : Places) (start nets : Nets) (own n first until : ℕ) →
+pub netted_at : (h : Head) (cols : Columns) (rows : List (List ℕ)) (f g : Option ℕ) (at : Places) (start nets : Nets) (own n first until : ℕ) →
     own ≡ key_number at.ceder at.acquirer at.category at.day → n ≡ min h.records 256 →
     first ≡ first_counted h.clock at.day → until ≡ steps_of at.day →
     Based (load_row rows f) start.ceder → Based (load_row rows g) start.acquirer → Netted cols n own start first until nets →
@@ -42,7 +42,7 @@ steps_at l k ps first until ef eu = rw (ef, eu)
 module _ (h : Head) (cols : Columns) (loads : LoadColumns) (at : Places) (ps : List ℕ) (j : Judgeable h at)
     (first until : ℕ) (ef : first ≡ first_counted h.clock at.day) (eu : until ≡ steps_of at.day)
     (a b : ℕ) (ea : a ≡ load_number at.ceder at.category at.day) (eb : b ≡ load_number at.acquirer at.category at.day)
-    (f g : Found) (ff : f ≡ last_load loads.keys h.loads a) (fg : g ≡ last_load loads.keys h.loads b) (nets : Nets)
+    (f g : Option ℕ) (ff : f ≡ last_load loads.keys h.loads a) (fg : g ≡ last_load loads.keys h.loads b) (nets : Nets)
     (net : NettedAt h cols loads.rows f g at nets) where
   abbrev k : Key
   k = key_at at
@@ -58,7 +58,7 @@ module _ (h : Head) (cols : Columns) (loads : LoadColumns) (at : Places) (ps : L
   unfolding view
   clock_is = refl
 
-  starts : (who number : ℕ) (r : Found) (net : List ℕ) → who < 8 → number ≡ load_number who at.category at.day →
+  starts : (who number : ℕ) (r : Option ℕ) (net : List ℕ) → who < 8 → number ≡ load_number who at.category at.day →
       r ≡ last_load loads.keys h.loads number → Based (load_row loads.rows r) net →
       (s : ℕ) → first_counted h.clock at.day ≤ s → s < steps_of at.day →
       get_or net s 0 ≡ base + loaded (view h cols loads).loads who k.category k.day s
@@ -69,7 +69,7 @@ module _ (h : Head) (cols : Columns) (loads : LoadColumns) (at : Places) (ps : L
       let q : r ≡ last_load loads.keys h.loads (load_number who at.category at.day) = er ∙ ap (last_load loads.keys h.loads) em in
       rw (e, ← q) (based.each s (omega arith))
 
-  most_of : (who number m : ℕ) (r : Found) → who < 8 → number ≡ load_number who at.category at.day →
+  most_of : (who number m : ℕ) (r : Option ℕ) → who < 8 → number ≡ load_number who at.category at.day →
       r ≡ last_load loads.keys h.loads number → m ≡ load_most loads.approved r →
       m ≡ approved (view h cols loads).loads who k.category k.day
   unfolding view

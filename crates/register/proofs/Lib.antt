@@ -1,4 +1,5 @@
 -- What is true of a register's calls: what their tests come to, what the head that they leave holds, and demand 3 of them.
+pub mod Trying
 pub mod CallTests
 pub mod Steps
 pub mod Parties

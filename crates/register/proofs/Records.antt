@@ -1,4 +1,5 @@
 -- One record more: what the head and the lent columns hold once a filing is recorded.
+use Rattle.std.specs.Prelude.{Ok}
 use mathlib.Core.Path.{◌≡◌, sym, subst, ◌∙◌, ap, ap₂}
 use mathlib.Core.Bool.{Bool}
 use mathlib.Core.List.{List, [], ◌∷◌, map}
@@ -50,7 +51,7 @@ outcome_of h loads rs id status first =
         loads = loads_in h.loads loads;
         records = rs;
       };
-      answer = Filed id status first;
+      answer = Ok (Filed id status first);
     }
 
 module _ (h : Head) (loads : LoadColumns) (was : Columns) (at : Places) (ps : List ℕ)
@@ -131,14 +132,14 @@ module _ (h : Head) (loads : LoadColumns) (was : Columns) (at : Places) (ps : Li
         ∙ ap (λ p. with_record p (key_at at) (next_id (view h was loads)) number (first_counted h.clock at.day) (steps_of at.day) (status_by p))
         (sym is_paired))
 
-    outcome : ◌≡◌ {A = Outcome} (record { ledger = view (with_records h (n + 1)) recorded loads; answer = Filed (n + 1) status first })
+    outcome : ◌≡◌ {A = Outcome} (record { ledger = view (with_records h (n + 1)) recorded loads; answer = Ok (Filed (n + 1) status first) })
         (file_at (view h was loads) (key_at at) by ps)
     unfolding view file_at filed
     outcome =
         ap (λ rs. outcome_of h loads rs (n + 1) status first) all
         ∙ rw (is_paired, ← next_is, es, ef)
 
-    pub record_done : seen (lent (with_records h (n + 1)) recorded loads) (Filed (n + 1) status first) ≡ files_at (lent h was loads) (key_at at) by ps
+    pub record_done : seen (lent (with_records h (n + 1)) recorded loads) (Ok (Filed (n + 1) status first)) ≡ files_at (lent h was loads) (key_at at) by ps
     record_done = ap₂ (λ x o. record { register = x; outcome = o }) left outcome
 
 -- ---- the records under the filing's key

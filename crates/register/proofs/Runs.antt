@@ -1,5 +1,7 @@
 -- A RUN: a list of calls of the register's own functions, and a call that only asks after it. Each step is what the called function
 -- ensures where what it asks holds, as Rattle reads both off the source, and nothing else is known of it.
+use Rattle.std.specs.Prelude.{Result}
+use Rattle.refusals.specs.declared.Refusal.{Refusal}
 use borrow.Fn.Kinds
 use borrow.Fn.World
 use denote.Triple.Clauses
@@ -9,15 +11,12 @@ use mathlib.Core.List.{List, [], ◌∷◌}
 use Prim.Native.Nat.{ℕ}
 use lib.ListN.{length}
 use Rattle.ledger.specs.Ledger.{Ledger, fresh}
-use Rattle.ledger.specs.Call.{csv, json, Call, enrol_actor, enrol_category, load, file, advance}
+use Rattle.ledger.specs.Call.{Answered, csv, json, Call, enrol_actor, enrol_category, load, file, advance}
 use Rattle.ledger.specs.Calls.{step}
 use Rattle.ledger.specs.Asking.{ask_engagement, ask_record, ask_history, history_in}
 use Rattle.ledger.specs.Whole.{after, answers_to}
-use Rattle.ledger.specs.declared.Answer.{Answer}
-use Rattle.ledger.specs.declared.Engaged.{Engaged}
 use Rattle.ledger.specs.declared.Entry.TheVariants.{SevenDays}
 use Rattle.ledger.specs.declared.Shown.{Shown}
-use Rattle.ledger.specs.declared.Listed.{Listed}
 use Rattle.tables.specs.Tables.{Columns, LoadColumns, columns, load_columns}
 use Rattle.register.specs.View.{Register, lent, view, held}
 use Rattle.register.specs.Written.{fresh_register, Done, does, seen}
@@ -64,7 +63,7 @@ pub data Begun : Fresh → Type 1 where
 
 -- A CALL, ITS ANSWER AND THE REGISTER THAT IT LEAVES: what the called function ensures of what it was handed. Arguments are
 -- read at entry, what it may write at exit; nobody else writes to the register meanwhile.
-pub data Did : Register → Call → Answer → Register → Type 1 where
+pub data Did : Register → Call → Answered → Register → Type 1 where
   did_actor : (cols : Columns) (ls : LoadColumns) (κs : Lifetimes.Lfts 1) (a : World.ArgsD actor-fn.signature κs) (y : Reply)
       (s : Clauses.AtExit (Kinds.ended_of 1 actor-kinds.ps actor-kinds.r) κs) → (actor-reads.Asked κs a → actor-reads.Post κs a y s) →
       Did (lent a.0 cols ls) (enrol_actor a.1.0.now a.1.1.0 a.1.1.1.0) y.answer (lent y.head cols ls)
@@ -98,15 +97,15 @@ pub data Did : Register → Call → Answer → Register → Type 1 where
       Did (lent a.0 cols ls) (advance a.1.0 a.1.1.0) y.answer (lent y.head cols ls)
 
 -- a list of calls, each given the register as the one before left it
-pub data Ran : Register → List Call → List Answer → Register → Type 1 where
+pub data Ran : Register → List Call → List Answered → Register → Type 1 where
   none : {r : Register} → Ran r [] [] r
-  more : {r s t : Register} {c : Call} {y : Answer} {cs : List Call} {ys : List Answer} → Did r c y s → Ran s cs ys t → Ran r (c ∷ cs) (y ∷ ys) t
+  more : {r s t : Register} {c : Call} {y : Answered} {cs : List Call} {ys : List Answered} → Did r c y s → Ran s cs ys t → Ran r (c ∷ cs) (y ∷ ys) t
 
 -- ---- the calls that only ask
 
 -- what the engagement call answers of a register; ids and approved powers are not lent to it
-pub data Engages : Register → List ℕ → List ℕ → ℕ → ℕ → Engaged → Type 1 where
-  engages : (ids approved : List ℕ) (κs : Lifetimes.Lfts 8) (a : World.ArgsD engagement-fn.signature κs) (y : Engaged)
+pub data Engages : Register → List ℕ → List ℕ → ℕ → ℕ → Result ℕ Refusal → Type 1 where
+  engages : (ids approved : List ℕ) (κs : Lifetimes.Lfts 8) (a : World.ArgsD engagement-fn.signature κs) (y : Result ℕ Refusal)
       (s : Clauses.AtExit (Kinds.ended_of 8 engagement-kinds.ps engagement-kinds.r) κs) → (engagement-reads.Asked κs a → engagement-reads.Post κs a y s) →
       Engages
       (lent a.0 (columns a.1.0.now ids a.1.1.0.now a.1.1.1.0.now a.1.1.1.1.0.now)
@@ -122,9 +121,9 @@ pub data Shows : Register → List ℕ → ℕ → Shown → Type 1 where
       a.1.1.1.1.1.1.0.now a.1.1.1.1.1.1.1.0 y
 
 -- what the history call answers of a register, and the lent buffer before and after it; only ids and keys are lent to it
-pub data Lists : Register → List ℕ → List ℕ → Listed → List ℕ → Type 1 where
+pub data Lists : Register → List ℕ → List ℕ → Result ℕ Refusal → List ℕ → Type 1 where
   lists : (statuses : List ℕ) (marks rows : List (List ℕ)) (ls : LoadColumns) (κs : Lifetimes.Lfts 4) (a : World.ArgsD history-fn.signature κs)
-      (y : Listed) (s : Clauses.AtExit (Kinds.ended_of 4 history-kinds.ps history-kinds.r) κs) →
+      (y : Result ℕ Refusal) (s : Clauses.AtExit (Kinds.ended_of 4 history-kinds.ps history-kinds.r) κs) →
       (history-reads.Asked κs a → history-reads.Post κs a y s) →
       Lists (lent a.0 (columns statuses a.1.0.now a.1.1.0.now marks rows) ls)
       a.1.1.1.0.now a.1.1.1.1.0.now y s.1.1.1.1.0.now
@@ -169,7 +168,7 @@ pub begun_is : {start : Fresh} → Begun start → (start ≡ fresh_register) ×
 begun_is (begun start e) = e asks_nothing.fresh
 
 -- the register that a call leaves, byte by byte, the ledger that this holds, and the answer
-pub did_all : {r s : Register} {c : Call} {y : Answer} → Did r c y s → seen s y ≡ does r c
+pub did_all : {r s : Register} {c : Call} {y : Answered} → Did r c y s → seen s y ≡ does r c
 did_all (did_actor cols ls κs a y s e) = e (asks_nothing.enrol_actor_lem κs a) cols ls
 did_all (did_category cols ls κs a y s e) = e (asks_nothing.enrol_category_lem κs a) cols ls
 did_all (did_load cols κs a y s e) = e (asks_nothing.load κs a) cols
@@ -177,22 +176,22 @@ did_all (did_file κs a y s e) = e (asks_nothing.file κs a)
 did_all (did_object κs a y s e) = e (asks_nothing.file_object κs a)
 did_all (did_advance cols ls a y s e) = e (asks_nothing.advance a) cols ls
 
-pub did_step : {r s : Register} {c : Call} {y : Answer} → Did r c y s → (held s ≡ (step (held r) c).ledger) × (y ≡ (step (held r) c).answer)
+pub did_step : {r s : Register} {c : Call} {y : Answered} → Did r c y s → (held s ≡ (step (held r) c).ledger) × (y ≡ (step (held r) c).answer)
 did_step d = (ap (λ (x : Done). x.outcome.ledger) (did_all d), ap (λ (x : Done). x.outcome.answer) (did_all d))
 
-pub ran_after : {r t : Register} {cs : List Call} {ys : List Answer} → Ran r cs ys t → (l : Ledger) → held r ≡ l → (held t ≡ after l cs) × (ys ≡ answers_to l cs)
+pub ran_after : {r t : Register} {cs : List Call} {ys : List Answered} → Ran r cs ys t → (l : Ledger) → held r ≡ l → (held t ≡ after l cs) × (ys ≡ answers_to l cs)
 ran_after none l e = (e, refl)
 ran_after (more {c = c} q k) l e =
     let p = did_step q in
     let rest = ran_after k (step l c).ledger (p.0 ∙ ap (λ l. (step l c).ledger) e) in
     (rest.0, ap₂ ◌∷◌ (p.1 ∙ ap (λ l. (step l c).answer) e) rest.1)
 
-pub engages_is : {r : Register} {a z : List ℕ} {d s : ℕ} {y : Engaged} → Engages r a z d s y → y ≡ ask_engagement (held r) a z d s
+pub engages_is : {r : Register} {a z : List ℕ} {d s : ℕ} {y : Result ℕ Refusal} → Engages r a z d s y → y ≡ ask_engagement (held r) a z d s
 engages_is (engages ids approved κs a y s e) = e (asks_nothing.engagement κs a) ids approved
 
 pub shows_is : {r : Register} {asker : List ℕ} {id : ℕ} {y : Shown} → Shows r asker id y → y ≡ ask_record (held r) asker id
 shows_is (shows ls κs a y s e) = e (asks_nothing.record_of κs a) ls
 
-pub lists_is : {r : Register} {actor before later : List ℕ} {y : Listed} → Lists r actor before y later →
+pub lists_is : {r : Register} {actor before later : List ℕ} {y : Result ℕ Refusal} → Lists r actor before y later →
     (y ≡ ask_history (held r) actor (length before)) × (later ≡ history_in (held r) actor before)
 lists_is (lists statuses marks rows ls κs a y s e) = e (asks_nothing.history κs a) statuses marks rows ls

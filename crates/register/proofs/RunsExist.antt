@@ -1,15 +1,14 @@
 -- EVERY LIST OF CALLS HAS A RUN: from every register whose arrays have their places there is, call after call, an answer and a register that
 -- meet what the called function ensures. So what is shown of every run is shown of every list of calls, and no contract asks for what
 -- can't be.
+use Rattle.std.specs.Prelude.{Result}
+use Rattle.refusals.specs.declared.Refusal.{Refusal}
 use mathlib.Core.Path.{refl}
 use mathlib.Core.List.{List, [], ◌∷◌}
 use Prim.Native.Nat.{ℕ}
-use Rattle.ledger.specs.Call.{csv, json, Call, enrol_actor, enrol_category, load, file, advance}
-use Rattle.ledger.specs.declared.Answer.{Answer}
-use Rattle.ledger.specs.declared.Engaged.{Engaged}
+use Rattle.ledger.specs.Call.{Answered, csv, json, Call, enrol_actor, enrol_category, load, file, advance}
 use Rattle.ledger.specs.declared.Entry.TheVariants.{SevenDays}
 use Rattle.ledger.specs.declared.Shown.{Shown}
-use Rattle.ledger.specs.declared.Listed.{Listed}
 use Rattle.tables.specs.Tables.{Columns, LoadColumns, actors_in, categories_in, loads_in, records_in}
 use Rattle.register.specs.View.{Register, lent, view}
 use Rattle.register.specs.Written.{fresh_head, fresh_register}
@@ -32,7 +31,7 @@ next r z (advance day minute) = next_advance r day minute z
 
 -- the answers of a list of calls, and the register that it leaves
 pub record Run (r : Register) (cs : List Call) : Type 1 where
-  pub answers : List Answer
+  pub answers : List Answered
   pub register : Register
   pub ran : Ran r cs answers register
 
@@ -57,9 +56,9 @@ pub record Exists (cols : Columns) (ls : LoadColumns) (cs : List Call) : Type 1 
   pub start : Fresh
   pub begun : Begun start
   pub run : Run (lent start.head cols ls) cs
-  pub engagement : (actor category : List ℕ) (day s : ℕ) → (y : Engaged) × Engages run.register actor category day s y
+  pub engagement : (actor category : List ℕ) (day s : ℕ) → (y : Result ℕ Refusal) × Engages run.register actor category day s y
   pub record_of : (asker : List ℕ) (id : ℕ) → (y : Shown) × Shows run.register asker id y
-  pub history : (actor before : List ℕ) → (y : Listed) × (later : List ℕ) × Lists run.register actor before y later
+  pub history : (actor before : List ℕ) → (y : Result ℕ Refusal) × (later : List ℕ) × Lists run.register actor before y later
 
 pub every_list_runs : (cols : Columns) (ls : LoadColumns) → RecordsSized cols → LoadsSized ls → (cs : List Call) → Exists cols ls cs
 every_list_runs cols ls c l cs =

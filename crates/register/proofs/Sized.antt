@@ -5,8 +5,7 @@ use mathlib.Core.Path.{◌≡◌}
 use mathlib.Core.List.{[]}
 use Prim.Native.Nat.{ℕ, ◌<◌}
 use lib.ListN.{length, get_or}
-use Rattle.ledger.specs.Call.{Call}
-use Rattle.ledger.specs.declared.Answer.{Answer}
+use Rattle.ledger.specs.Call.{Answered, Call}
 use Rattle.tables.specs.Tables.{Columns, LoadColumns}
 use Rattle.register.specs.View.{Register}
 use Rattle.register.proofs.Runs.{Did}
@@ -42,7 +41,7 @@ ref_mut x = record { ref_ptr = (0, 0); ghost_name = 0; now = x }
 
 -- a call that can be made, and what comes of it
 pub record Next (r : Register) (c : Call) : Type 1 where
-  pub answer : Answer
+  pub answer : Answered
   pub register : Register
   pub did : Did r c answer register
   pub sized : Sized register

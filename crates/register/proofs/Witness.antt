@@ -1,13 +1,13 @@
 -- What the theorems speak of happens: the list of calls of the ledger's own witness (crates/ledger/proofs/Witness.antt), with an exchange in
 -- it, run on lent columns of zeros. Each call is accepted, and the engagement call answers 20 and 40 MW where 60 and 0 are loaded.
+use Rattle.std.specs.Prelude.{Ok, Result}
+use Rattle.refusals.specs.declared.Refusal.{Refusal}
 use mathlib.Core.Path.{◌≡◌, ◌∙◌, ap}
 use mathlib.Core.List.{List, [], ◌∷◌}
 use Prim.Native.Nat.{ℕ}
 use lib.ListN.{replicate, length, length-replicate, get_or-replicate}
 use Rattle.ledger.specs.Statuses.{created, validated}
 use Rattle.ledger.specs.declared.Answer.TheVariants.{Moved, Held, Filed}
-use Rattle.ledger.specs.declared.Engaged.{Engaged}
-use Rattle.ledger.specs.declared.Engaged.TheVariants.{Power}
 use Rattle.ledger.proofs.Examples.{first, second, category, plain_day}
 use Rattle.ledger.proofs.Witness.{calls, told, reached, pair, met}
 use Rattle.ledger.proofs.Whole.{demand3}
@@ -54,10 +54,10 @@ pub accepted : ran.run.answers ≡
 accepted = answers.answered ∙ met.accepted
 
 -- ceder and acquirer after it
-pub engaged : (y z : Engaged) → Engages ran.run.register first category plain_day 20 y → Engages ran.run.register second category plain_day 20 z →
-    (y ≡ Power 20) × (z ≡ Power 40)
+pub engaged : (y z : Result ℕ Refusal) → Engages ran.run.register first category plain_day 20 y → Engages ran.run.register second category plain_day 20 z →
+    (y ≡ Ok 20) × (z ≡ Ok 40)
 unfolding told reached pair
 engaged y z p q = (
-  answers.engagement first category plain_day 20 y p ∙ (demand3 calls).answered first category plain_day 20 met.asked ∙ ap (λ x. Power x.0) met.engaged,
-  answers.engagement second category plain_day 20 z q ∙ (demand3 calls).answered second category plain_day 20 met.asked_other ∙ ap (λ x. Power x.1) met.engaged,
+  answers.engagement first category plain_day 20 y p ∙ (demand3 calls).answered first category plain_day 20 met.asked ∙ ap (λ x. Ok x.0) met.engaged,
+  answers.engagement second category plain_day 20 z q ∙ (demand3 calls).answered second category plain_day 20 met.asked_other ∙ ap (λ x. Ok x.1) met.engaged,
 )

@@ -1,4 +1,5 @@
 -- What judging a filing by places leaves to be known of it.
+use Rattle.std.specs.Prelude.{None, Option, Some}
 use Rattle.std.specs.Prelude.{◌≡◌, List, ℕ, ◌<◌, min}
 use Rattle.calendar.specs.Steps.{steps_of}
 use Rattle.calendar.specs.Clocks.{first_counted}
@@ -8,7 +9,6 @@ use Rattle.ledger.specs.Calls.{file_at}
 use Rattle.ledger.specs.Filing.{key_of}
 use Rattle.tables.specs.Tables.{Columns, key_number}
 use Rattle.tables.specs.Passing.{load_row, is_under, PlacesOf}
-use Rattle.tables.specs.declared.loads.Found.{Found}
 use Rattle.judging.specs.Nets.{Based, Netted}
 use Rattle.judging.specs.declared.nets.Nets.{Nets}
 use Rattle.register.specs.declared.Head.{Head}
@@ -41,7 +41,7 @@ pub record Fileable (h : Head) (at : Places) : Type 0 where
   pub room : h.records < record_places
 
 -- what ceder and acquirer have without the key's own power, by their loads' rows and the records
-pub record NettedAt (h : Head) (cols : Columns) (rows : List (List ℕ)) (ceders acquirers : Found) (at : Places) (nets : Nets) : Type 0 where
+pub record NettedAt (h : Head) (cols : Columns) (rows : List (List ℕ)) (ceders acquirers : Option ℕ) (at : Places) (nets : Nets) : Type 0 where
   pub start : Nets
   pub ceder : Based (load_row rows ceders) start.ceder
   pub acquirer : Based (load_row rows acquirers) start.acquirer

@@ -1,19 +1,19 @@
 -- WHAT A CALL LEAVES, PLACE BY PLACE (document 01, "The buyer's note": "Each open function states its result and all that it may write,
 -- for all inputs and refusals, as an equality with a definition"): where it is refused, the register as it came in; else one table with
 -- what the call puts into it, and every other place of the register with what it held.
-use Rattle.std.specs.Prelude.{List, [], ◌∷◌, ℕ, ◌+◌, get_or, set, replicate}
+use Rattle.notification.specs.Reading.{note_of}
+use Rattle.refusals.specs.declared.Refusal.{Refusal}
+use Rattle.std.specs.Prelude.{List, [], ◌∷◌, ℕ, ◌+◌, get_or, set, replicate, Result}
 use Rattle.calendar.specs.Steps.{steps_of}
 use Rattle.calendar.specs.Clocks.{first_counted, fresh_clock}
 use Rattle.calendar.specs.declared.clock.Clock.{Clock}
-use Rattle.refusals.specs.Tests.{first_met, decide}
+use Rattle.refusals.specs.Tests.{first_met, decide, verdict}
 use Rattle.notification.specs.Forms.{six_bytes, in_places}
 use Rattle.notification.specs.declared.Notification.{Notification}
-use Rattle.notification.specs.declared.Reading.{Reading}
 use Rattle.ledger.specs.Ledger.{Key, Rec, actor_places, category_places, record_places, actor_at, category_at}
-use Rattle.ledger.specs.Call.{read_form, Call, enrol_actor, enrol_category, load, file, advance}
+use Rattle.ledger.specs.Call.{Answered, read_form, Call, enrol_actor, enrol_category, load, file, advance}
 use Rattle.ledger.specs.Calls.{Outcome, verdict_of, refused_by, step_note, step, moment}
 use Rattle.ledger.specs.Filing.{nobody, key_of, filing_tests, pairs, changed, status_by, next_id}
-use Rattle.ledger.specs.declared.Answer.{Answer}
 use Rattle.ledger.specs.declared.Entry.{Entry}
 use Rattle.tables.specs.Tables.{columns, load_number, key_number, record_in}
 use Rattle.tables.specs.More.{more_actors, more_categories, load_put, put_to, with_until}
@@ -90,7 +90,7 @@ writes r (load actor category day most ps) =
     let n = r.head.loads in
     let number = load_number (actor_at (held r).actors actor) (category_at (held r).categories category) day in
     lent (with_loads r.head (n + 1)) r.columns (load_put r.loads n number most (in_places ps))
-writes r (file entry submitter form) = note_put r submitter (read_form submitter form).notification
+writes r (file entry submitter form) = note_put r submitter (note_of (read_form submitter form))
 writes r (advance day minute) = lent (with_clock r.head (moment day minute)) r.columns r.loads
 
 -- A REFUSED CALL LEAVES THE REGISTER AS IT CAME IN
@@ -114,10 +114,10 @@ does_note r entry submitter n =
     }
 
 -- and of a form, by what it was read as: the refusal where there is one, else its notification
-abbrev pub does_reading : Register → Entry → List ℕ → Reading → Done
+abbrev pub does_reading : Register → Entry → List ℕ → Result Notification Refusal → Done
 does_reading r entry submitter x =
-    decide x.verdict (does_note r entry submitter x.notification) (λ f. record { register = r; outcome = refused_by (held r) f })
+    decide (verdict x) (does_note r entry submitter (note_of x)) (λ f. record { register = r; outcome = refused_by (held r) f })
 
 -- what is seen of a call: the register after it, the ledger that this holds, and the answer
-abbrev pub seen : Register → Answer → Done
+abbrev pub seen : Register → Answered → Done
 seen r y = record { register = r; outcome = record { ledger = held r; answer = y } }

@@ -8,42 +8,25 @@ ghost use Rattle.register.specs.View.{view};
 
 use crate::Head;
 use calendar::steps_of;
-use ledger::{Engaged, Listed};
-use lists::numbers::{least, wide};
 use recording::adding::totals_of;
 use recording::listing::{count_ids, put_ids};
-use refusals::trying::{try_input, try_state};
-use refusals::{InputRefusal, StateRefusal, Verdict};
-use tables::actors::ACTORS;
-use tables::categories::CATEGORIES;
+use refusals::trying::refuse_if;
+use refusals::{InputRefusal, Refusal, StateRefusal};
 use tables::loads::{last_of, load_number, row_at};
-use tables::records::RECORDS;
-
-// What has been gained less what has been given, and 0 where that would be below 0.
-fn less(gained: u32, given: u32) -> u32
-    ensures { result ≡ gained - given }
-{
-    if given <= gained { gained - given } else { 0 }
-}
+use tables::records::{RECORDS, Records};
 
 impl Head {
     // What the engagement call comes to, by the places of its actor and its category: 22, 23, 10.
-    fn engagement_verdict(self, a: u32, z: u32, day: u32, step: u32) -> Verdict
+    #[tactic(auto, unfolding(crate::specs::View::view, ledger::specs::Asking::engagement_tests))]
+    fn engagement_verdict(self, a: u32, z: u32, day: u32, step: u32) -> Result<(), Refusal>
         ensures { (columns : Columns) (loads : LoadColumns) (actor category : List ℕ) →
             a ≡ actor_at (actors_in self.actors) actor → z ≡ category_at (categories_in self.categories) category →
             result ≡ first_met (engagement_tests (view self columns loads) actor category day step) }
     {
-        let v = try_state(
-            Verdict::Pass,
-            !(a < least(self.actors.count, ACTORS)),
-            StateRefusal::ActorUnknown,
-        );
-        let v = try_state(
-            v,
-            !(z < least(self.categories.count, CATEGORIES)),
-            StateRefusal::CategoryUnknown,
-        );
-        try_input(v, !(step < steps_of(day)), InputRefusal::Range)
+        refuse_if(!(a < self.actors.len()), StateRefusal::ActorUnknown)?;
+        refuse_if(!(z < self.categories.len()), StateRefusal::CategoryUnknown)?;
+        refuse_if(!(step < steps_of(day)), InputRefusal::Range)?;
+        Ok(())
     }
 
     // An actor's own engagement at a step of a day.
@@ -59,25 +42,27 @@ impl Head {
         category: &[u8],
         day: u32,
         step: u32,
-    ) -> Engaged
+    ) -> Result<u32, Refusal>
         ensures { (ids approved : List ℕ) →
             result ≡ ask_engagement (view self
             (columns statuses.now ids keys.now marks.now rows.now)
             (load_columns numbers.now approved loads.now))
             actor.now category.now day step }
     {
-        let actors = self.actors;
-        let a = actors.place(actor);
-        let categories = self.categories;
-        let z = categories.place(category);
-        let verdict = self.engagement_verdict(a, z, day, step);
-        if let Verdict::No(r) = verdict {
-            return Engaged::Refused(r);
-        }
+        let a = self.actors.place(actor);
+        let z = self.categories.place(category);
+        self.engagement_verdict(a, z, day, step)?;
         let row = row_at(loads, last_of(numbers, self.loads, load_number(a, z, day)));
-        let n = least(self.records, RECORDS);
-        let totals = totals_of(statuses, keys, marks, rows, n, day * 4 + z, a, step);
-        Engaged::Power(less(wide(row[step as usize]) + totals.gained, totals.given))
+        let records = Records {
+            statuses,
+            keys,
+            marks,
+            rows,
+        };
+        let n = self.records.min(RECORDS);
+        let totals = totals_of(records, n, day * 4 + z, a, step);
+        let gained = u32::from(row[step as usize]) + totals.gained;
+        Ok(gained.saturating_sub(totals.given))
     }
 
     // An actor's history: the ids of all records that it is a party to, by day and within a day by id, into a lent
@@ -89,7 +74,7 @@ impl Head {
         keys: &[u32; 256],
         actor: &[u8],
         out: &mut [u32],
-    ) -> Listed
+    ) -> Result<u32, Refusal>
         ensures { (statuses : List ℕ) (marks rows : List (List ℕ)) (loads : LoadColumns) →
             (result ≡ ask_history (view self (columns statuses ids.now keys.now marks rows) loads)
             actor.now (length out.old))
@@ -97,21 +82,12 @@ impl Head {
             ≡ history_in (view self (columns statuses ids.now keys.now marks rows) loads)
             actor.now out.old) }
     {
-        let actors = self.actors;
-        let a = actors.place(actor);
-        let n = least(self.records, RECORDS);
+        let a = self.actors.place(actor);
+        let n = self.records.min(RECORDS);
         let count = count_ids(keys, n, a);
-        let v = try_state(
-            Verdict::Pass,
-            !(a < least(actors.count, ACTORS)),
-            StateRefusal::ActorUnknown,
-        );
-        let v = try_state(v, out.len() < count as usize, StateRefusal::Full);
-        if let Verdict::No(r) = v {
-            return Listed::Refused(r);
-        }
-        let clock = self.clock;
-        put_ids(keys, ids, n, a, clock.day % 128 + 8, out);
-        Listed::Count(count)
+        refuse_if(!(a < self.actors.len()), StateRefusal::ActorUnknown)?;
+        refuse_if(out.len() < count as usize, StateRefusal::Full)?;
+        put_ids(keys, ids, n, a, self.clock.day % 128 + 8, out);
+        Ok(count)
     }
 }

@@ -9,12 +9,11 @@ ghost use Rattle.register.specs.View.{view, lent};
 ghost use Rattle.register.specs.Written.{fresh_register, seen, does};
 
 use crate::{Fresh, Head, Reply};
-use calendar::{Advance, Clock, DAYS};
+use calendar::{Clock, DAYS};
 use ledger::{Actor, Answer};
-use lists::numbers::least;
-use notification::forms::{is_category, is_code, six, sixteen};
-use refusals::trying::{try_input, try_state};
-use refusals::{InputRefusal, Refusal, StateRefusal, Verdict};
+use notification::forms::{in_bytes, is_category, is_code};
+use refusals::trying::refuse_if;
+use refusals::{InputRefusal, Refusal, StateRefusal};
 use tables::actors::{ACTORS, Actors};
 use tables::categories::{CATEGORIES, Categories, Category};
 
@@ -44,7 +43,7 @@ impl Head {
             records: 0,
         };
         Fresh {
-            head: head,
+            head,
             statuses: [0; 256],
             ids: [0; 256],
         }
@@ -52,27 +51,28 @@ impl Head {
 
     // A call that is refused leaves the head as it was.
     pub(crate) fn refused(self, r: Refusal) -> Reply
-        ensures { result ≡ record { head = self; answer = Answer.Refused r } }
+        ensures { result ≡ record { head = self; answer = Err r } }
     {
         Reply {
             head: self,
-            answer: Answer::Refused(r),
+            answer: Err(r),
         }
     }
 
     // What enrolling an actor comes to: 9, 10, 37, 36.
-    fn actor_verdict(self, code: &[u8], first: u32, last: u32) -> Verdict
+    #[tactic(auto, unfolding(crate::specs::View::view, ledger::specs::Calls::actor_tests))]
+    fn actor_verdict(self, code: &[u8], first: u32, last: u32) -> Result<(), Refusal>
         ensures { (columns : Columns) (loads : LoadColumns) →
             result ≡ first_met (actor_tests (view self columns loads) code.now first last) }
     {
-        let actors = self.actors;
-        let n = least(actors.count, ACTORS);
-        let at = actors.place(code);
+        let n = self.actors.len();
+        let at = self.actors.place(code);
         let in_range = (first < DAYS) & (last < DAYS) & (first <= last);
-        let v = try_input(Verdict::Pass, !is_code(code), InputRefusal::Form);
-        let v = try_input(v, !in_range, InputRefusal::Range);
-        let v = try_state(v, at < n, StateRefusal::There);
-        try_state(v, !(n < ACTORS), StateRefusal::Full)
+        refuse_if(!is_code(code), InputRefusal::Form)?;
+        refuse_if(!in_range, InputRefusal::Range)?;
+        refuse_if(at < n, StateRefusal::There)?;
+        refuse_if(!(n < ACTORS), StateRefusal::Full)?;
+        Ok(())
     }
 
     // Enrols an actor with a contract from a first to a last day, and answers how many actors there now are.
@@ -81,37 +81,33 @@ impl Head {
             seen (lent result.head columns loads) result.answer
             ≡ does (lent self columns loads) (enrol_actor code.now first last) }
     {
-        let verdict = self.actor_verdict(code, first, last);
-        if let Verdict::No(r) = verdict {
+        if let Err(r) = self.actor_verdict(code, first, last) {
             return self.refused(r);
         }
         let actor = Actor {
-            code: sixteen(code),
-            first: first,
-            last: last,
+            code: in_bytes(code),
+            first,
+            last,
         };
-        let before = self.actors;
-        let actors = before.with(actor);
-        let n = actors.count;
-        let mut head = self;
-        head.actors = actors;
+        let actors = self.actors.with(actor);
         Reply {
-            head: head,
-            answer: Answer::Held(n),
+            head: Head { actors, ..self },
+            answer: Ok(Answer::Held(actors.count)),
         }
     }
 
     // What enrolling a category comes to: 9, 37, 36.
-    fn category_verdict(self, text: &[u8]) -> Verdict
+    #[tactic(auto, unfolding(crate::specs::View::view, ledger::specs::Calls::category_tests))]
+    fn category_verdict(self, text: &[u8]) -> Result<(), Refusal>
         ensures { (columns : Columns) (loads : LoadColumns) →
             result ≡ first_met (category_tests (view self columns loads) text.now) }
     {
-        let categories = self.categories;
-        let n = least(categories.count, CATEGORIES);
-        let at = categories.place(text);
-        let v = try_input(Verdict::Pass, !is_category(text), InputRefusal::Form);
-        let v = try_state(v, at < n, StateRefusal::There);
-        try_state(v, !(n < CATEGORIES), StateRefusal::Full)
+        let n = self.categories.len();
+        let at = self.categories.place(text);
+        refuse_if(!is_category(text), InputRefusal::Form)?;
+        refuse_if(at < n, StateRefusal::There)?;
+        refuse_if(!(n < CATEGORIES), StateRefusal::Full)?;
+        Ok(())
     }
 
     // Enrols a category, and answers how many there now are.
@@ -120,19 +116,16 @@ impl Head {
             seen (lent result.head columns loads) result.answer
             ≡ does (lent self columns loads) (enrol_category text.now) }
     {
-        let verdict = self.category_verdict(text);
-        if let Verdict::No(r) = verdict {
+        if let Err(r) = self.category_verdict(text) {
             return self.refused(r);
         }
-        let category = Category { text: six(text) };
-        let before = self.categories;
-        let categories = before.with(category);
-        let n = categories.count;
-        let mut head = self;
-        head.categories = categories;
+        let category = Category {
+            text: in_bytes(text),
+        };
+        let categories = self.categories.with(category);
         Reply {
-            head: head,
-            answer: Answer::Held(n),
+            head: Head { categories, ..self },
+            answer: Ok(Answer::Held(categories.count)),
         }
     }
 
@@ -141,22 +134,12 @@ impl Head {
         ensures { (columns : Columns) (loads : LoadColumns) →
             seen (lent result.head columns loads) result.answer ≡ does (lent self columns loads) (advance day minute) }
     {
-        let to = Clock {
-            day: day,
-            minute: minute,
-        };
-        let clock = self.clock;
-        let moved = clock.advanced(to);
-        match moved {
-            Advance::Refused(r) => self.refused(r),
-            Advance::Moved(next) => {
-                let mut head = self;
-                head.clock = next;
-                Reply {
-                    head: head,
-                    answer: Answer::Moved,
-                }
-            }
+        match self.clock.advanced(Clock { day, minute }) {
+            Err(r) => self.refused(r),
+            Ok(clock) => Reply {
+                head: Head { clock, ..self },
+                answer: Ok(Answer::Moved),
+            },
         }
     }
 }

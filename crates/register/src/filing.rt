@@ -11,15 +11,16 @@ use crate::verdicts::Places;
 use crate::{Head, Reply};
 use calendar::steps_of;
 use ledger::{Answer, Entry};
-use notification::{Notification, Reading};
-use reader::reading::{read_file, refuse};
+use notification::Notification;
+use reader::reading::read_file;
 use recording::changing::change_all;
 use recording::pairing::is_paired;
-use refusals::{InputRefusal, Refusal, Verdict};
+use refusals::trying::refuse_if;
+use refusals::{InputRefusal, Refusal};
 use request_reader::reading::read_object;
 use tables::actors::is_text;
-use tables::records::{CREATED, VALIDATED, key_number};
-use tables::sizes::{size_marks, size_rows, size_u8, size_u32};
+use tables::loads::Loads;
+use tables::records::{CREATED, Records, VALIDATED, key_number};
 
 // The status of a new record: validated where it is paired, else created.
 fn status_of(paired: bool) -> u8
@@ -29,24 +30,12 @@ fn status_of(paired: bool) -> u8
 }
 
 // What the object that a submitter files is read as: 42, 5 to 8, and 43 where its origin isn't the submitter.
-fn read_from(submitter: &[u8], body: &[u8]) -> Reading
+fn read_from(submitter: &[u8], body: &[u8]) -> Result<Notification, Refusal>
     ensures { result ≡ read_form submitter.now (json body.now) }
 {
-    let read = read_object(body);
-    let verdict = read.verdict;
-    if let Verdict::No(r) = verdict {
-        return refuse(r);
-    }
-    let request = read.request;
-    let origin = request.origin;
-    if !is_text(origin, submitter) {
-        return refuse(Refusal::Input(InputRefusal::Origin, 0));
-    }
-    let notification = request.notification;
-    Reading {
-        verdict: Verdict::Pass,
-        notification,
-    }
+    let request = read_object(body)?;
+    refuse_if(!is_text(request.origin, submitter), InputRefusal::Origin)?;
+    Ok(request.notification)
 }
 
 impl Head {
@@ -80,15 +69,13 @@ impl Head {
         let first = clock.first_counted(day);
         let until = steps_of(day);
         let n = self.records;
-        // Lent as slices, the columns show that they have 256 places.
-        let status_places = size_u8(&*statuses);
-        let id_places = size_u32(&*ids);
-        let key_places = size_u32(&*keys);
-        let mark_places = size_marks(&*marks);
-        let row_places = size_rows(&*rows);
-        let paired = is_paired(
-            &*statuses, &*keys, &*marks, &*rows, under, count, by, own, ps,
-        );
+        let records = Records {
+            statuses: &*statuses,
+            keys: &*keys,
+            marks: &*marks,
+            rows: &*rows,
+        };
+        let paired = is_paired(records, under, count, by, own, ps);
         change_all(
             &mut *statuses,
             &*keys,
@@ -110,11 +97,12 @@ impl Head {
         keys[place] = own;
         marks[place] = [by as u8, first as u8, until as u8, 0];
         rows[place] = ps;
-        let mut head = self;
-        head.records = n + 1;
         Reply {
-            head: head,
-            answer: Answer::Filed(id, status, first),
+            head: Head {
+                records: n + 1,
+                ..self
+            },
+            answer: Ok(Answer::Filed(id, status, first)),
         }
     }
 
@@ -145,25 +133,23 @@ impl Head {
         let at = self.places(submitter, n);
         let ps = n.powers;
         let mut under = [0u8; 256];
-        let judged = self.judge(
-            &mut under, &*statuses, &*keys, &*marks, &*rows, numbers, approved, loads, entry, at,
-            &ps,
-        );
-        let verdict = judged.verdict;
-        if let Verdict::No(r) = verdict {
-            return self.refused(r);
+        let records = Records {
+            statuses: &*statuses,
+            keys: &*keys,
+            marks: &*marks,
+            rows: &*rows,
+        };
+        let loads = Loads {
+            numbers,
+            approved,
+            rows: loads,
+        };
+        match self.judge(&mut under, records, loads, entry, at, &ps) {
+            Err(r) => self.refused(r),
+            Ok(count) => {
+                self.record_note(statuses, ids, keys, marks, rows, &under, count, at, ps)
+            }
         }
-        self.record_note(
-            statuses,
-            ids,
-            keys,
-            marks,
-            rows,
-            &under,
-            judged.count,
-            at,
-            ps,
-        )
     }
 
     // Files a form by its submitter's code and what it was read as.
@@ -178,7 +164,7 @@ impl Head {
         approved: &[u16; 64],
         loads: &[[u16; 50]; 64],
         submitter: &[u8],
-        reading: Reading,
+        reading: Result<Notification, Refusal>,
     ) -> Reply
         ensures { seen (lent result.head
             (columns statuses.new ids.new keys.new marks.new rows.new)
@@ -189,23 +175,22 @@ impl Head {
             (load_columns numbers.now approved.now loads.now))
             Entry.SevenDays submitter.now reading }
     {
-        let verdict = reading.verdict;
-        if let Verdict::No(r) = verdict {
-            return self.refused(r);
+        match reading {
+            Err(r) => self.refused(r),
+            Ok(n) => self.file_note(
+                statuses,
+                ids,
+                keys,
+                marks,
+                rows,
+                numbers,
+                approved,
+                loads,
+                Entry::SevenDays,
+                submitter,
+                n,
+            ),
         }
-        self.file_note(
-            statuses,
-            ids,
-            keys,
-            marks,
-            rows,
-            numbers,
-            approved,
-            loads,
-            Entry::SevenDays,
-            submitter,
-            reading.notification,
-        )
     }
 
     // Files a notification file by its submitter's code, its name and its body.

@@ -11,6 +11,7 @@ pub mod verdicts;
 
 use calendar::Clock;
 use ledger::Answer;
+use refusals::Refusal;
 use tables::actors::Actors;
 use tables::categories::Categories;
 
@@ -40,5 +41,5 @@ pub struct Fresh {
 #[derive(Clone, Copy)]
 pub struct Reply {
     pub head: Head,
-    pub answer: Answer,
+    pub answer: Result<Answer, Refusal>,
 }

@@ -1,21 +1,19 @@
 // A record by its id, shown to an actor who is a party to it.
 ghost use Rattle.std.specs.Prelude.{◌≡◌, List, ℕ, ◌<◌};
 ghost use Rattle.notification.specs.Forms.{six_bytes, category_text};
-ghost use Rattle.ledger.specs.Asking.{code_at, category_of, not_shown, shown, ask_record};
+ghost use Rattle.ledger.specs.Asking.{code_at, category_of, shown, ask_record};
+ghost use Rattle.tables.specs.Lent.{columns_of};
 ghost use Rattle.tables.specs.Tables.{Columns, LoadColumns, columns, record_in};
 ghost use Rattle.register.specs.View.{view};
 
 use crate::Head;
 use calendar::steps_of;
 use ledger::Shown;
-use lists::numbers::{byte, least};
 use notification::{Key, Notification};
-use recording::listing::{find_id, found_at, is_party};
-use refusals::trying::try_state;
-use refusals::{Refusal, StateRefusal, Verdict};
-use tables::actors::ACTORS;
-use tables::categories::CATEGORIES;
-use tables::loads::is_at;
+use recording::listing::{find_id, is_party};
+use refusals::trying::refuse_if;
+use refusals::{Refusal, StateRefusal};
+use tables::records::Records;
 
 // Six bytes of a category are those of its text.
 fn six_of(text: [u8; 6]) -> [u8; 6]
@@ -24,41 +22,13 @@ fn six_of(text: [u8; 6]) -> [u8; 6]
     text
 }
 
-// What a record call that is refused shows.
-fn not_shown(f: Refusal) -> Shown
-    ensures { result ≡ not_shown f }
-{
-    let key = Key {
-        ceder: [0; 16],
-        acquirer: [0; 16],
-        category: [0; 6],
-        day: 0,
-    };
-    let blank = Notification {
-        key: key,
-        steps: 0,
-        powers: [0; 50],
-    };
-    Shown {
-        verdict: Verdict::No(f),
-        submitter: [0; 16],
-        notification: blank,
-        status: 0,
-        from: 0,
-        until: 0,
-    }
-}
-
 impl Head {
     // The code of the actor at a place, or zeros.
     fn code_at(self, place: u32) -> [u8; 16]
         ensures { (columns : Columns) (loads : LoadColumns) → result ≡ code_at (view self columns loads) place }
     {
-        let actors = self.actors;
-        if place < least(actors.count, ACTORS) {
-            let entries = actors.entries;
-            let e = entries[place as usize];
-            return e.code;
+        if place < self.actors.len() {
+            return self.actors.entries[place as usize].code;
         }
         [0; 16]
     }
@@ -68,55 +38,41 @@ impl Head {
         ensures { (columns : Columns) (loads : LoadColumns) →
             result ≡ category_of (view self columns loads) place }
     {
-        let categories = self.categories;
-        if place < least(categories.count, CATEGORIES) {
-            let entries = categories.entries;
-            let e = entries[place as usize];
-            let text = e.text;
-            return six_of(text);
+        if place < self.categories.len() {
+            return six_of(self.categories.entries[place as usize].text);
         }
         [0; 6]
     }
 
     // The record at a place, with its codes and its category.
-    fn shown_at(
-        self,
-        statuses: &[u8; 256],
-        keys: &[u32; 256],
-        marks: &[[u8; 4]; 256],
-        rows: &[[u16; 50]; 256],
-        i: u32,
-    ) -> Shown
+    fn shown_at(self, records: Records, i: u32) -> Shown
         requires { i < 256 }
         ensures { (ids : List ℕ) (loads : LoadColumns) →
-            result ≡ shown (view self
-            (columns statuses.now ids keys.now marks.now rows.now) loads)
-            (record_in
-            (columns statuses.now ids keys.now marks.now rows.now) i) }
+            let cols = columns_of records.entry ids in
+            result ≡ shown (view self cols loads) (record_in cols i) }
     {
         let at = i as usize;
-        let number = keys[at];
-        let mark = marks[at];
-        let row = rows[at];
+        let number = records.keys[at];
+        let mark = records.marks[at];
+        let row = records.rows[at];
         let day = number / 256;
         let key = Key {
             ceder: self.code_at(number / 8 % 8),
             acquirer: self.code_at(number % 8),
             category: self.category_at(number / 64 % 4),
-            day: day,
+            day,
         };
         let notification = Notification {
-            key: key,
+            key,
             steps: steps_of(day),
             powers: row,
         };
         Shown {
-            verdict: Verdict::Pass,
-            submitter: self.code_at(byte(mark[0])),
-            notification: notification,
-            status: statuses[at],
-            from: byte(mark[1]),
-            until: byte(mark[2]),
+            submitter: self.code_at(u32::from(mark[0])),
+            notification,
+            status: records.statuses[at],
+            from: u32::from(mark[1]),
+            until: u32::from(mark[2]),
         }
     }
 
@@ -130,27 +86,25 @@ impl Head {
         rows: &[[u16; 50]; 256],
         asker: &[u8],
         id: u32,
-    ) -> Shown
+    ) -> Result<Shown, Refusal>
         ensures { (loads : LoadColumns) →
             result ≡ ask_record (view self
             (columns statuses.now ids.now keys.now marks.now
             rows.now)
             loads) asker.now id }
     {
-        let actors = self.actors;
-        let a = actors.place(asker);
+        let a = self.actors.place(asker);
         let found = find_id(ids, self.records, id);
-        let i = found_at(found);
-        let v = try_state(
-            Verdict::Pass,
-            !(a < least(actors.count, ACTORS)),
-            StateRefusal::ActorUnknown,
-        );
-        let v = try_state(v, !is_at(found), StateRefusal::NoRecord);
-        let v = try_state(v, !is_party(keys[i as usize], a), StateRefusal::NotAsker);
-        if let Verdict::No(r) = v {
-            return not_shown(r);
-        }
-        self.shown_at(statuses, keys, marks, rows, i)
+        let i = found.unwrap_or(0);
+        refuse_if(!(a < self.actors.len()), StateRefusal::ActorUnknown)?;
+        refuse_if(found.is_none(), StateRefusal::NoRecord)?;
+        refuse_if(!is_party(keys[i as usize], a), StateRefusal::NotAsker)?;
+        let records = Records {
+            statuses,
+            keys,
+            marks,
+            rows,
+        };
+        Ok(self.shown_at(records, i))
     }
 }

@@ -17,10 +17,8 @@ pub struct Turn {
 pub fn turned(reply: Reply) -> Turn
     ensures { result ≡ record { head = reply.head; said = said_of reply.answer } }
 {
-    let head = reply.head;
-    let answer = reply.answer;
     Turn {
-        head: head,
-        said: of_answer(answer),
+        head: reply.head,
+        said: of_answer(reply.answer),
     }
 }

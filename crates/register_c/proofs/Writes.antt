@@ -4,10 +4,11 @@ use mathlib.Core.List.{List}
 use Prim.Native.Nat.{ℕ}
 use lib.ListN.{length}
 use Rattle.notification.specs.declared.Notification.{Notification}
-use Rattle.notification.specs.declared.Written.{Written}
+use Rattle.std.specs.Prelude.{Result}
+use Rattle.refusals.specs.declared.Refusal.{Refusal}
+use Rattle.notification.specs.declared.FileLengths.{FileLengths}
 use Rattle.notification.specs.Writing.{name_of, body_of, write_verdict, write_answer, written}
 use Rattle.request.specs.declared.Request.{Request}
-use Rattle.request.specs.declared.RequestWritten.{RequestWritten}
 use Rattle.request.specs.Writing.{object_text, request_verdict, request_answer}
 use Rattle.writer.specs.Placing as Placing
 use Rattle.register_c.specs.Faces.{flat_written, flat_object_written}
@@ -15,7 +16,7 @@ use Rattle.register_c.specs.declared.files.FileWritten.{FileWritten}
 use Rattle.register_c.specs.declared.objects.ObjectWritten.{ObjectWritten}
 
 pub written_of :
-    {note m : Notification} {name body name-after body-after : List ℕ} {answer : Written} {r : FileWritten} → note ≡ m →
+    {note m : Notification} {name body name-after body-after : List ℕ} {answer : Result FileLengths Refusal} {r : FileWritten} → note ≡ m →
     Placing.FileWritten note name body answer name-after body-after → r ≡ flat_written answer →
     (r ≡ flat_written (write_answer m (length name) (length body))) ×
     (name-after ≡ written (write_verdict m (length name) (length body)) (name_of m.key) name) ×
@@ -23,7 +24,7 @@ pub written_of :
 written_of e w said = rw (← e) (said ∙ ap flat_written w.answers, w.its_name, w.its_body)
 
 pub object_written_of :
-    (buffer : List ℕ) {request m : Request} {after : List ℕ} {answer : RequestWritten} {r : ObjectWritten} → request ≡ m →
+    (buffer : List ℕ) {request m : Request} {after : List ℕ} {answer : Result ℕ Refusal} {r : ObjectWritten} → request ≡ m →
     (answer ≡ request_answer request (length buffer)) × (after ≡ written (request_verdict request (length buffer)) (object_text request) buffer) →
     r ≡ flat_object_written answer →
     (r ≡ flat_object_written (request_answer m (length buffer))) ×

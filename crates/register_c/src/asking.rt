@@ -1,14 +1,14 @@
-// The read-only calls.
+// The read-only calls. Each column is a parameter of its own, as C lends them.
 ghost use Rattle.std.specs.Prelude.{◌≡◌, List, ℕ, length};
 ghost use Rattle.ledger.specs.Asking.{ask_engagement, ask_record, ask_history, history_in};
-ghost use Rattle.answers.specs.Values.{said_engaged, said_listed};
+ghost use Rattle.answers.specs.Values.{said_number};
 ghost use Rattle.tables.specs.Tables.{LoadColumns, columns, load_columns};
 ghost use Rattle.register.specs.View.{view};
-ghost use Rattle.register_c.specs.Faces.{verdict_number, verdict_place, flat_shown};
+ghost use Rattle.register_c.specs.Faces.{flat_shown};
 
-use answers::{Said, of_engaged, of_listed};
+use answers::{Said, of_number};
 use ledger::Shown;
-use refusals::Verdict;
+use refusals::{Refusal, number_of, place_of};
 use register::Head;
 
 // Number and place of the refusal, 0 and 0 where there is none; then the whole record.
@@ -29,50 +29,56 @@ pub struct RecordShown {
     pub status: u8,
 }
 
-// The number of a verdict's refusal.
-pub fn number(v: Verdict) -> u32
-    ensures { result ≡ verdict_number v }
-{
-    match v {
-        Verdict::Pass => 0,
-        Verdict::No(r) => refusals::number_of(r),
-    }
-}
+// What a refusal shows.
+const NOTHING: RecordShown = RecordShown {
+    number: 0,
+    place: 0,
+    day: 0,
+    steps: 0,
+    from: 0,
+    until: 0,
+    powers: [0; 50],
+    submitter: [0; 16],
+    ceder: [0; 16],
+    acquirer: [0; 16],
+    category: [0; 6],
+    status: 0,
+};
 
-// The place of a verdict's refusal.
-pub fn place(v: Verdict) -> u32
-    ensures { result ≡ verdict_place v }
-{
-    match v {
-        Verdict::Pass => 0,
-        Verdict::No(r) => refusals::place_of(r),
-    }
-}
+impl From<Result<Shown, Refusal>> for RecordShown {
+    ghost from_gives = { λ x y. y ≡ flat_shown x };
 
-fn flat(x: Shown) -> RecordShown
-    ensures { result ≡ flat_shown x }
-{
-    let verdict = x.verdict;
-    let note = x.notification;
-    let powers = note.powers;
-    let key = note.key;
-    let submitter = x.submitter;
-    let ceder = key.ceder;
-    let acquirer = key.acquirer;
-    let category = key.category;
-    RecordShown {
-        number: number(verdict),
-        place: place(verdict),
-        day: key.day,
-        steps: note.steps,
-        from: x.from,
-        until: x.until,
-        powers,
-        submitter,
-        ceder,
-        acquirer,
-        category,
-        status: x.status,
+    fn from(answer: Result<Shown, Refusal>) -> RecordShown {
+        match answer {
+            Ok(shown) => {
+                let note = shown.notification;
+                let powers = note.powers;
+                let key = note.key;
+                let submitter = shown.submitter;
+                let ceder = key.ceder;
+                let acquirer = key.acquirer;
+                let category = key.category;
+                RecordShown {
+                    number: 0,
+                    place: 0,
+                    day: key.day,
+                    steps: note.steps,
+                    from: shown.from,
+                    until: shown.until,
+                    powers,
+                    submitter,
+                    ceder,
+                    acquirer,
+                    category,
+                    status: shown.status,
+                }
+            }
+            Err(refusal) => RecordShown {
+                number: number_of(refusal),
+                place: place_of(refusal),
+                ..NOTHING
+            },
+        }
     }
 }
 
@@ -94,13 +100,13 @@ pub extern "C" fn register_head_engagement(
     ensures { (ids approved : List ℕ) →
         let cols = columns statuses.now ids keys.now marks.now rows.now in
         let loaded = load_columns numbers.now approved loads.now in
-        result ≡ said_engaged
+        result ≡ said_number
         (ask_engagement (view head cols loaded) actor.now category.now day step) }
 {
     let answer = head.engagement(
         statuses, keys, marks, rows, numbers, loads, actor, category, day, step,
     );
-    of_engaged(answer)
+    of_number(answer)
 }
 
 // Shows a record by its id to an actor who is ceder or acquirer of it.
@@ -121,7 +127,7 @@ pub extern "C" fn register_head_record(
         result ≡ flat_shown (ask_record (view head cols loads) asker.now id) }
 {
     let answer = head.record(statuses, ids, keys, marks, rows, asker, id);
-    flat(answer)
+    answer.into()
 }
 
 // Puts the ids of all records that an actor is a party to into a lent buffer, by day, earliest first, and within a day
@@ -136,9 +142,9 @@ pub extern "C" fn register_head_history(
 ) -> Said
     ensures { (statuses : List ℕ) (marks rows : List (List ℕ)) (loads : LoadColumns) →
         let ledger = view head (columns statuses ids.now keys.now marks rows) loads in
-        (result ≡ said_listed (ask_history ledger actor.now (length out.old)))
+        (result ≡ said_number (ask_history ledger actor.now (length out.old)))
         × (out.new ≡ history_in ledger actor.now out.old) }
 {
     let answer = head.history(ids, keys, actor, out);
-    of_listed(answer)
+    of_number(answer)
 }

@@ -1,4 +1,4 @@
-// The calls of demand 3's list, and a fresh register.
+// The calls of demand 3's list, and a fresh register. Each column is a parameter of its own, as C lends them.
 ghost use Rattle.std.specs.Prelude.{◌≡◌};
 ghost use Rattle.ledger.specs.Call.{csv, json, enrol_actor, enrol_category, load, file, advance};
 ghost use Rattle.ledger.specs.Ledger.{fresh};

@@ -4,7 +4,7 @@ ghost use Rattle.calendar.specs.Texts.{day_of, text_of};
 ghost use Rattle.calendar.specs.Steps.{steps_of};
 ghost use Rattle.register_c.specs.Faces.{number_of_day};
 
-use calendar::{DAYS, Day};
+use calendar::DAYS;
 
 // The eight digits of a date.
 #[repr(C)]
@@ -18,11 +18,7 @@ pub struct DateText {
 pub extern "C" fn calendar_day(date: &[u8]) -> u32
     ensures { result ≡ number_of_day (day_of date.now) }
 {
-    let day = calendar::day_of(date);
-    match day {
-        Day::Number(n) => n,
-        Day::NoDay => DAYS,
-    }
+    calendar::day_of(date).unwrap_or(DAYS)
 }
 
 // The date of a day; eight bytes of 0 where there is no such day.
@@ -31,7 +27,7 @@ pub extern "C" fn calendar_date(day: u32) -> DateText
     ensures { result ≡ record { digits = text_of day } }
 {
     let digits = calendar::text_of(day);
-    DateText { digits: digits }
+    DateText { digits }
 }
 
 // How many steps a day has; 0 where there is no such day.

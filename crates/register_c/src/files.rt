@@ -3,13 +3,12 @@ ghost use Rattle.std.specs.Prelude.{◌≡◌, length};
 ghost use Rattle.notification.specs.Reading.{read_file};
 ghost use Rattle.notification.specs.Writing.{name_of, body_of, write_verdict, write_answer, written};
 ghost use Rattle.reader.specs.InHand.{in_hand, begun, fed, ended};
-ghost use Rattle.register_c.specs.Faces.{flat_of, note_to_write, flat_written};
+ghost use Rattle.register_c.specs.Faces.{flat_note, flat_refused, flat_of, note_to_write, flat_written};
 
-use crate::asking::{number, place};
-use notification::{Key, Notification, Reading, Written};
+use notification::{FileLengths, Key, Notification};
 use reader::pieces::FileReader;
 use reader::reading::read_file;
-use refusals::Refusal;
+use refusals::{Refusal, number_of, place_of};
 use writer::writing::write_file;
 
 // Number and place of the refusal, 0 and 0 where there is none; then the notification.
@@ -36,19 +35,30 @@ pub struct FileWritten {
     pub body: usize,
 }
 
-pub(crate) fn flat(x: Reading) -> FileRead
-    ensures { result ≡ flat_of x }
+// What a reading that is refused has for its notification.
+const BLANK: Notification = Notification {
+    key: Key {
+        ceder: [0; 16],
+        acquirer: [0; 16],
+        category: [0; 6],
+        day: 0,
+    },
+    steps: 0,
+    powers: [0; 50],
+};
+
+// A notification behind a refusal's number and place.
+pub(crate) fn flat(number: u32, place: u32, note: Notification) -> FileRead
+    ensures { result ≡ flat_note number place note }
 {
-    let verdict = x.verdict;
-    let note = x.notification;
     let powers = note.powers;
     let key = note.key;
     let ceder = key.ceder;
     let acquirer = key.acquirer;
     let category = key.category;
     FileRead {
-        number: number(verdict),
-        place: place(verdict),
+        number,
+        place,
         day: key.day,
         steps: note.steps,
         powers,
@@ -58,51 +68,66 @@ pub(crate) fn flat(x: Reading) -> FileRead
     }
 }
 
-// The notification of a flat struct.
-pub(crate) fn note_to_write(x: FileRead) -> Notification
-    ensures { result ≡ note_to_write x }
+// The same of a refusal.
+pub(crate) fn flat_refused(refusal: Refusal) -> FileRead
+    ensures { result ≡ flat_refused refusal }
 {
-    let ceder = x.ceder;
-    let acquirer = x.acquirer;
-    let category = x.category;
-    let powers = x.powers;
-    let key = Key {
-        ceder,
-        acquirer,
-        category,
-        day: x.day,
-    };
-    Notification {
-        key: key,
-        steps: x.steps,
-        powers,
+    flat(number_of(refusal), place_of(refusal), BLANK)
+}
+
+impl From<Result<Notification, Refusal>> for FileRead {
+    ghost from_gives = { λ x y. y ≡ flat_of x };
+
+    fn from(read: Result<Notification, Refusal>) -> FileRead {
+        match read {
+            Ok(note) => flat(0, 0, note),
+            Err(refusal) => flat_refused(refusal),
+        }
     }
 }
 
-// What is said of a notification that isn't written.
-fn unwritten(r: Refusal) -> FileWritten
-    ensures { result ≡ flat_written (Written.Refused r) }
-{
-    FileWritten {
-        number: refusals::number_of(r),
-        place: refusals::place_of(r),
-        name: 0,
-        body: 0,
+// The notification of a flat struct.
+impl From<FileRead> for Notification {
+    ghost from_gives = { λ x n. n ≡ note_to_write x };
+
+    fn from(x: FileRead) -> Notification {
+        let ceder = x.ceder;
+        let acquirer = x.acquirer;
+        let category = x.category;
+        let powers = x.powers;
+        let key = Key {
+            ceder,
+            acquirer,
+            category,
+            day: x.day,
+        };
+        Notification {
+            key,
+            steps: x.steps,
+            powers,
+        }
     }
 }
 
 // The lengths that were written, or the refusal.
-fn flat_written(x: Written) -> FileWritten
-    ensures { result ≡ flat_written x }
-{
-    match x {
-        Written::Lengths(name, body) => FileWritten {
-            number: 0,
-            place: 0,
-            name,
-            body,
-        },
-        Written::Refused(r) => unwritten(r),
+impl From<Result<FileLengths, Refusal>> for FileWritten {
+    ghost from_gives = { λ x y. y ≡ flat_written x };
+
+    fn from(written: Result<FileLengths, Refusal>) -> FileWritten {
+        match written {
+            Ok(lengths) => FileWritten {
+                number: 0,
+                place: 0,
+                name: lengths.name,
+                body: lengths.body,
+            },
+            Err(refusal) => FileWritten {
+                number: number_of(refusal),
+                place: place_of(refusal),
+                name: 0,
+                body: 0,
+            },
+        }
     }
 }
 
@@ -111,7 +136,7 @@ fn flat_written(x: Written) -> FileWritten
 pub extern "C" fn notification_read(name: &[u8], body: &[u8]) -> FileRead
     ensures { result ≡ flat_of (read_file name.now body.now) }
 {
-    flat(read_file(name, body))
+    read_file(name, body).into()
 }
 
 // Begins a file by its name; its body comes in pieces.
@@ -135,7 +160,7 @@ pub extern "C" fn notification_feed(reader: FileReader, piece: &[u8]) -> FileRea
 pub extern "C" fn notification_end(reader: FileReader) -> FileRead
     ensures { result ≡ flat_of (ended (in_hand reader)) }
 {
-    flat(reader.end())
+    reader.end().into()
 }
 
 // Writes a notification's name and body into two lent buffers, the rest of both untouched, and gives their lengths. A
@@ -148,7 +173,7 @@ pub extern "C" fn notification_write(n: FileRead, name: &mut [u8], body: &mut [u
         × (name.new ≡ written verdict (name_of note.key) name.old)
         × (body.new ≡ written verdict (body_of note) body.old) }
 {
-    let note = note_to_write(n);
+    let note = Notification::from(n);
     let answer = write_file(note, name, body);
-    flat_written(answer)
+    answer.into()
 }

@@ -5,10 +5,10 @@ ghost use Rattle.request.specs.Reading.{read_object};
 ghost use Rattle.request.specs.Writing.{object_text, request_verdict, request_answer};
 ghost use Rattle.register_c.specs.Faces.{flat_object, request_to_write, flat_object_written};
 
-use crate::files::{FileRead, flat, note_to_write};
-use notification::Reading;
-use refusals::Refusal;
-use request::{Moment, Request, RequestRead, RequestWritten};
+use crate::files::{FileRead, flat, flat_refused};
+use notification::Notification;
+use refusals::{Refusal, number_of, place_of};
+use request::{Moment, Request};
 use request_reader::reading::read_object;
 use request_writer::writing::write_object;
 
@@ -32,65 +32,71 @@ pub struct ObjectWritten {
     pub length: usize,
 }
 
-fn flat_object(x: RequestRead) -> ObjectRead
-    ensures { result ≡ flat_object x }
-{
-    let verdict = x.verdict;
-    let request = x.request;
-    let notification = request.notification;
-    let moment = request.moment;
-    let origin = request.origin;
-    let read = flat(Reading {
-        verdict,
-        notification,
-    });
-    ObjectRead {
-        read,
-        day: moment.day,
-        second: moment.second,
-        origin,
+impl From<Result<Request, Refusal>> for ObjectRead {
+    ghost from_gives = { λ x y. y ≡ flat_object x };
+
+    fn from(read: Result<Request, Refusal>) -> ObjectRead {
+        match read {
+            Ok(request) => {
+                let read = flat(0, 0, request.notification);
+                let moment = request.moment;
+                let origin = request.origin;
+                ObjectRead {
+                    read,
+                    day: moment.day,
+                    second: moment.second,
+                    origin,
+                }
+            }
+            Err(refusal) => {
+                let read = flat_refused(refusal);
+                ObjectRead {
+                    read,
+                    day: 0,
+                    second: 0,
+                    origin: [0; 16],
+                }
+            }
+        }
     }
 }
 
 // The request of a flat struct.
-fn request_to_write(x: ObjectRead) -> Request
-    ensures { result ≡ request_to_write x }
-{
-    let notification = note_to_write(x.read);
-    let origin = x.origin;
-    let moment = Moment {
-        day: x.day,
-        second: x.second,
-    };
-    Request {
-        notification,
-        origin,
-        moment,
-    }
-}
+impl From<ObjectRead> for Request {
+    ghost from_gives = { λ x r. r ≡ request_to_write x };
 
-// What is said of a request that isn't written.
-fn unwritten_object(r: Refusal) -> ObjectWritten
-    ensures { result ≡ flat_object_written (RequestWritten.Refused r) }
-{
-    ObjectWritten {
-        number: refusals::number_of(r),
-        place: refusals::place_of(r),
-        length: 0,
+    fn from(x: ObjectRead) -> Request {
+        let notification = Notification::from(x.read);
+        let origin = x.origin;
+        let moment = Moment {
+            day: x.day,
+            second: x.second,
+        };
+        Request {
+            notification,
+            origin,
+            moment,
+        }
     }
 }
 
 // The length that was written, or the refusal.
-fn flat_object_written(x: RequestWritten) -> ObjectWritten
-    ensures { result ≡ flat_object_written x }
-{
-    match x {
-        RequestWritten::Length(length) => ObjectWritten {
-            number: 0,
-            place: 0,
-            length,
-        },
-        RequestWritten::Refused(r) => unwritten_object(r),
+impl From<Result<usize, Refusal>> for ObjectWritten {
+    ghost from_gives = { λ x y. y ≡ flat_object_written x };
+
+    fn from(written: Result<usize, Refusal>) -> ObjectWritten {
+        match written {
+            Ok(length) => ObjectWritten {
+                number: 0,
+                place: 0,
+                length,
+            },
+            Err(refusal) => ObjectWritten {
+                number: number_of(refusal),
+                place: place_of(refusal),
+                length: 0,
+            },
+        }
     }
 }
 
@@ -99,7 +105,7 @@ fn flat_object_written(x: RequestWritten) -> ObjectWritten
 pub extern "C" fn register_object_read(body: &[u8]) -> ObjectRead
     ensures { result ≡ flat_object (read_object body.now) }
 {
-    flat_object(read_object(body))
+    read_object(body).into()
 }
 
 // Writes a request's object into a lent buffer, its rest untouched, and gives its length. A request that is refused
@@ -111,7 +117,7 @@ pub extern "C" fn register_object_write(x: ObjectRead, buffer: &mut [u8]) -> Obj
         (result ≡ flat_object_written (request_answer request (length buffer.old)))
         × (buffer.new ≡ written verdict (object_text request) buffer.old) }
 {
-    let request = request_to_write(x);
+    let request = Request::from(x);
     let answer = write_object(request, buffer);
-    flat_object_written(answer)
+    answer.into()
 }

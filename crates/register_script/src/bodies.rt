@@ -1,8 +1,9 @@
 // The files that lines name: each is read as its bytes come, and its body is not gathered.
 use crate::names::open;
 use crate::trying::read_some;
-use notification::Reading;
+use notification::Notification;
 use reader::pieces::FileReader;
+use refusals::Refusal;
 use session::calling::File;
 use std::{fs, io};
 
@@ -16,9 +17,10 @@ fn read_to_end(
     mut file: fs::File,
     name: &[u8],
     part: &mut [u8],
-) -> io::Result<Reading> {
+) -> io::Result<Result<Notification, Refusal>> {
     let mut reader = FileReader::begin(name);
     let mut done: usize = 0;
+    // Each turn takes as many bytes as come.
     while done < BODY {
         let n = read_some(rt, &mut file, &mut *part)?;
         let fed = reader.feed(&part[..n]);

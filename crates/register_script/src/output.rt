@@ -8,6 +8,7 @@ use std::io::{Error, ErrorKind};
 // last.
 fn write_all(rt: &HostRuntime, bytes: &[u8]) -> io::Result<()> {
     let mut rest = bytes;
+    // Each turn takes as many bytes as go.
     while !rest.is_empty() {
         let n = write_some(rt, rest)?;
         if n == 0 {

@@ -40,7 +40,7 @@ no_comma (b ∷ s) e =
 -- the digits from a place on so far
 pub record Near (line : List ℕ) (from v end : ℕ) : Type 0 where
   pub spelt : Spelt line from v end
-  pub needed : get_or line from 0 ≡ 48 → v ≡ 0
+  pub needed : get_or line from 0 ≡ 48 → ⊥
   pub small : v < 10 ^ (end - from)
 
 module _ {line : List ℕ} {from : ℕ} where
@@ -72,19 +72,19 @@ module _ {line : List ℕ} {from : ℕ} where
         value = rw q (value_end 0 s (x + 48) ∙ rw p.value (omega arith));
       }
 
-  pub near_one : {x : ℕ} → from + 1 < length line → x ≤ 9 → x + 48 ≡ get_or line from 0 → Near line from x (from + 1)
-  near_one {x} h k e =
+  pub near_one : {x : ℕ} → from + 1 < length line → x ≤ 9 → (x ≡ 0 → ⊥) → x + 48 ≡ get_or line from 0 → Near line from x (from + 1)
+  near_one {x} h k ne e =
       let d : from + 1 - from ≡ 1 = omega arith in
-      record { spelt = spelt_one h k e; needed = λ z. omega (arith, e, z); small = rw d (omega arith) }
+      record { spelt = spelt_one h k e; needed = λ z. ne (omega (arith, e, z)); small = rw d (omega arith) }
 
-  pub near_more : {v i x : ℕ} → Near line from v i → (v ≡ 0 → ⊥) → i < from + 5 → i + 1 < length line → x ≤ 9 → x + 48 ≡ get_or line i 0
+  pub near_more : {v i x : ℕ} → Near line from v i → i < from + 5 → i + 1 < length line → x ≤ 9 → x + 48 ≡ get_or line i 0
       → Near line from (v * 10 + x) (i + 1)
-  near_more {v} {i} {x} p ne few h k e =
+  near_more {v} {i} {x} p few h k e =
       let a = p.spelt.after in
       let d : i + 1 - from ≡ suc (i - from) = omega arith in
       record {
-        spelt = spelt_more p.spelt (λ z. ne (p.needed z)) refl (omega arith) h k e;
-        needed = λ z. absurd (ne (p.needed z));
+        spelt = spelt_more p.spelt p.needed refl (omega arith) h k e;
+        needed = p.needed;
         small = rw d (omega (arith, p.small));
       }
 

@@ -38,7 +38,9 @@ pub(crate) struct Numeral {
     pub end: usize,
 }
 
-// The field that starts at a place: it is searched for its comma, then read.
+// The field that starts at a place: it is searched for its comma, then read. Few fields come here, so the code for it
+// stands once.
+#[inline(never)]
 fn parted_number(line: &[u8], from: usize) -> Numeral
     requires { from ≤ length line.now }
     ensures { NumberRead line.now from result }
@@ -66,6 +68,7 @@ fn ended_number(line: &[u8], from: usize, value: u32, end: usize) -> Option<Nume
 }
 
 // The same of the digits that start at a place, in one pass over them, where six bytes are left.
+#[inline(always)]
 fn near_number(line: &[u8], from: usize) -> Option<Numeral>
     requires { from ≤ length line.now }
     ensures { IfSome result (NumberRead line.now from) }
@@ -77,20 +80,21 @@ fn near_number(line: &[u8], from: usize) -> Option<Numeral>
     if 9 < value {
         return None;
     }
+    if value == 0 {
+        return ended_number(line, from, value, from + 1);
+    }
     for end in from + 1..from + 5 {
         let digit = digit_value(line[end]);
         if 9 < digit {
             return ended_number(line, from, value, end);
-        }
-        if value == 0 {
-            return None;
         }
         value = value * 10 + digit;
     }
     ended_number(line, from, value, from + 5)
 }
 
-// The field that starts at a place.
+// The field that starts at a place. Inlined with the digits' pass, so that what it gives needs no memory.
+#[inline(always)]
 pub(crate) fn numeral_from(line: &[u8], from: usize) -> Numeral
     requires { from ≤ length line.now }
     ensures { NumberRead line.now from result }
@@ -109,6 +113,7 @@ pub(crate) fn count_in(line: &[u8], from: usize) -> Option<usize>
     let n = line.len();
     let mut count: usize = 0;
     let mut at = from;
+    // Each turn passes a field, of its own length.
     while at <= n {
         let numeral = numeral_from(line, at);
         if numeral.number.is_none() {

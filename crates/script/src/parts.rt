@@ -19,17 +19,16 @@ fn part(line: &[u8], from: usize, to: usize) -> &[u8]
 pub fn first_text(line: &[u8], read: Line) -> &[u8]
     ensures { result.now ≡ first_text line.now read }
 {
-    part(line, 2, read.first as usize)
+    part(line, 2, read.first)
 }
 
 pub fn second_text(line: &[u8], read: Line) -> &[u8]
     ensures { result.now ≡ second_text line.now read }
 {
-    let first = read.first as usize;
-    part(line, first + 1, read.second as usize)
+    part(line, read.first.saturating_add(1), read.second)
 }
 
-// The powers of a line, zeros after them, and how many they are.
+// The powers of a line, zeros after them, and how many they are: no heap holds a list of their own length.
 #[derive(Clone, Copy)]
 pub struct Powers {
     pub count: usize,
@@ -39,9 +38,9 @@ pub struct Powers {
 pub fn powers_of(line: &[u8], read: Line) -> Powers
     ensures { result ≡ powers_read line.now read }
 {
-    let most = (read.count as usize).min(256);
+    let most = read.count.min(256);
     let mut numbers = [0u32; 256];
-    let mut at = read.from as usize;
+    let mut at = read.from;
     for count in 0..most {
         if line.len() < at {
             return Powers { count, numbers };

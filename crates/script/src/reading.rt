@@ -1,6 +1,6 @@
 // What a line of the script asks. A number that a line ends with is its rest: one with a comma is no number.
 ghost use Rattle.std.specs.Prelude.{◌≡◌, ◌≤◌, length};
-ghost use Rattle.script.specs.Lines.{line_most, advance_line, enrol_line, category_line, load_line, file_line};
+ghost use Rattle.script.specs.Lines.{advance_line, enrol_line, category_line, load_line, file_line};
 ghost use Rattle.script.specs.Lines.{engagement_line, record_line};
 ghost use Rattle.script.specs.Spans.{start, names_file, line_read};
 ghost use Rattle.script.specs.Walking.{or_unknown, read_by};
@@ -37,15 +37,17 @@ pub enum Kind {
 // A line read. Texts are spans of the line: the first starts at 2 and ends before `first`, the second starts one after
 // that and ends before `second`. `day` is also an actor's first day; `number` is a minute, an actor's last day, an
 // approved power, a step or an id. The powers are `count` fields that start at `from`. What a kind doesn't have is 0.
+// One struct for all kinds and not an enum with the parts of each: the functions of `parts` promise something of every
+// line's `first` and `second`, and so does what docs/READING.md says of `named_line`.
 #[derive(Clone, Copy)]
 pub struct Line {
     pub kind: Kind,
-    pub first: u32,
-    pub second: u32,
+    pub first: usize,
+    pub second: usize,
     pub day: u32,
     pub number: u32,
-    pub from: u32,
-    pub count: u32,
+    pub from: usize,
+    pub count: usize,
 }
 
 // A line of no known form.
@@ -61,7 +63,7 @@ const UNKNOWN: Line = Line {
 
 // `T,date,minute`
 fn advance(line: &[u8]) -> Option<Line>
-    requires { (start ≤ length line.now) × (length line.now ≤ line_most) }
+    requires { start ≤ length line.now }
     ensures { or_unknown result ≡ read_by line.now advance_line }
 {
     let date = comma_from(line, 2)?;
@@ -77,7 +79,7 @@ fn advance(line: &[u8]) -> Option<Line>
 
 // `A,code,first,last`
 fn enrol(line: &[u8]) -> Option<Line>
-    requires { (start ≤ length line.now) × (length line.now ≤ line_most) }
+    requires { start ≤ length line.now }
     ensures { or_unknown result ≡ read_by line.now enrol_line }
 {
     let code = comma_past::<CODE>(line, 2)?;
@@ -86,7 +88,7 @@ fn enrol(line: &[u8]) -> Option<Line>
     let last = day_of(&line[date + 1..])?;
     Some(Line {
         kind: Kind::Calls(CallKind::EnrolActor),
-        first: code as u32,
+        first: code,
         day: first,
         number: last,
         ..UNKNOWN
@@ -95,7 +97,7 @@ fn enrol(line: &[u8]) -> Option<Line>
 
 // `C,category`
 fn category(line: &[u8]) -> Option<Line>
-    requires { (start ≤ length line.now) × (length line.now ≤ line_most) }
+    requires { start ≤ length line.now }
     ensures { or_unknown result ≡ read_by line.now category_line }
 {
     if has_byte(&line[2..], b',') {
@@ -103,14 +105,14 @@ fn category(line: &[u8]) -> Option<Line>
     }
     Some(Line {
         kind: Kind::Calls(CallKind::EnrolCategory),
-        first: line.len() as u32,
+        first: line.len(),
         ..UNKNOWN
     })
 }
 
 // `F,submitter,name`
 fn file(line: &[u8]) -> Option<Line>
-    requires { (start ≤ length line.now) × (length line.now ≤ line_most) }
+    requires { start ≤ length line.now }
     ensures { or_unknown result ≡ read_by line.now file_line }
 {
     let submitter = comma_past::<CODE>(line, 2)?;
@@ -119,15 +121,15 @@ fn file(line: &[u8]) -> Option<Line>
     }
     Some(Line {
         kind: Kind::Files,
-        first: submitter as u32,
-        second: line.len() as u32,
+        first: submitter,
+        second: line.len(),
         ..UNKNOWN
     })
 }
 
 // `E,actor,category,date,step`
 fn engagement(line: &[u8]) -> Option<Line>
-    requires { (start ≤ length line.now) × (length line.now ≤ line_most) }
+    requires { start ≤ length line.now }
     ensures { or_unknown result ≡ read_by line.now engagement_line }
 {
     let actor = comma_past::<CODE>(line, 2)?;
@@ -137,8 +139,8 @@ fn engagement(line: &[u8]) -> Option<Line>
     let step = number_in(&line[date + 1..])?;
     Some(Line {
         kind: Kind::Engagement,
-        first: actor as u32,
-        second: category as u32,
+        first: actor,
+        second: category,
         day,
         number: step,
         ..UNKNOWN
@@ -147,14 +149,14 @@ fn engagement(line: &[u8]) -> Option<Line>
 
 // `R,asker,id`
 fn record_of(line: &[u8]) -> Option<Line>
-    requires { (start ≤ length line.now) × (length line.now ≤ line_most) }
+    requires { start ≤ length line.now }
     ensures { or_unknown result ≡ read_by line.now record_line }
 {
     let asker = comma_past::<CODE>(line, 2)?;
     let id = number_in(&line[asker + 1..])?;
     Some(Line {
         kind: Kind::RecordOf,
-        first: asker as u32,
+        first: asker,
         number: id,
         ..UNKNOWN
     })
@@ -162,7 +164,7 @@ fn record_of(line: &[u8]) -> Option<Line>
 
 // `L,actor,category,date,approved,` then one power or more
 fn load(line: &[u8]) -> Option<Line>
-    requires { (start ≤ length line.now) × (length line.now ≤ line_most) }
+    requires { start ≤ length line.now }
     ensures { or_unknown result ≡ read_by line.now load_line }
 {
     let actor = comma_past::<CODE>(line, 2)?;
@@ -175,12 +177,12 @@ fn load(line: &[u8]) -> Option<Line>
     let count = count_in(line, from)?;
     Some(Line {
         kind: Kind::Calls(CallKind::Load),
-        first: actor as u32,
-        second: category as u32,
+        first: actor,
+        second: category,
         day,
         number: approved,
-        from: from as u32,
-        count: count as u32,
+        from,
+        count,
     })
 }
 

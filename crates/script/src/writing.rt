@@ -31,7 +31,7 @@ fn put_value(out: &mut [u8], at: usize, letter: bool, v: u32) -> usize
         out[at + 1] = (v % 256) as u8;
         return at + 2;
     }
-    put_number(out, at + 1, v as u64)
+    put_number(out, at + 1, u64::from(v))
 }
 
 // Puts the first of three values, each after a comma.

@@ -2,11 +2,10 @@
 -- file that can't be read". It is said with the place 0, and leaves the register as it was, whatever the register.
 use mathlib.Core.Path.{◌≡◌, refl}
 use mathlib.Core.Bool.{true}
-use Rattle.std.specs.Prelude.{Some, None}
+use Rattle.std.specs.Prelude.{Some, None, Result}
 use mathlib.Core.List.{List, [], ◌∷◌}
 use Prim.Native.Nat.{ℕ}
 use lib.ListN.{replicate}
-use Rattle.notification.specs.declared.Reading.{Reading}
 use Rattle.ledger.specs.Ledger.{Ledger}
 use Rattle.ledger.specs.declared.Entry.TheVariants.{SevenDays}
 use Rattle.answers.specs.Values.{said_refusal}
@@ -14,7 +13,7 @@ use Rattle.register.specs.View.{Register}
 use Rattle.register.specs.Written.{does_reading}
 use Rattle.register.specs.Told.{told, tells}
 use Rattle.script.specs.Lines.{fields, category_line, file_line, by_letter, line_of}
-use Rattle.session.specs.Lines.{File, only_asks, ask_step, line_step}
+use Rattle.session.specs.Lines.{Reading, File, only_asks, ask_step, line_step}
 
 -- `Z`, `C,` with 511 bytes more, and `F,X,Y`
 abbrev no_form : List ℕ

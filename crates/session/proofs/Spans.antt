@@ -1,19 +1,18 @@
 -- What a line does by what was read of it.
 use mathlib.Core.Path.{◌≡◌, refl, sym, ap, ap₂, ◌∙◌}
 use mathlib.Core.Bool.{true}
-use Rattle.std.specs.Prelude.{Some, None}
+use Rattle.std.specs.Prelude.{Some, None, Result}
 use mathlib.Core.List.{List}
 use Prim.Native.Nat.{ℕ, ◌≤◌}
 use lib.ListN.{length, take}
 use lib.Seq.{length-take-le}
 use Rattle.lists.proofs.Tests.{true_false}
-use Rattle.notification.specs.declared.Reading.{Reading}
 use Rattle.ledger.specs.Ledger.{Ledger}
 use Rattle.ledger.specs.Asking.{ask_engagement, ask_record}
-use Rattle.ledger.specs.declared.Engaged.{Engaged}
+use Rattle.refusals.specs.declared.Refusal.{Refusal}
 use Rattle.ledger.specs.declared.Entry.TheVariants.{SevenDays}
 use Rattle.ledger.specs.declared.Shown.{Shown}
-use Rattle.answers.specs.Values.{said_engaged, said_shown, said_refused}
+use Rattle.answers.specs.Values.{said_number, said_shown, said_refused}
 use Rattle.answers.specs.declared.Said.{Said}
 use Rattle.register.specs.View.{Register, held}
 use Rattle.register.specs.Written.{Done, seen, does, does_reading}
@@ -28,7 +27,7 @@ use Rattle.answers.specs.Values.{said_of}
 use Rattle.register.specs.declared.Reply.{Reply}
 use Rattle.session.specs.declared.store.Store.{Store}
 use Rattle.session.specs.Stores.{register_in}
-use Rattle.session.specs.Lines.{File, no_call, only_asks, ask_step, line_step}
+use Rattle.session.specs.Lines.{Reading, File, no_call, only_asks, ask_step, line_step}
 
 -- A LINE THAT ONLY ASKS is answered as the definition of a line's step has it
 pub asks_only : (r : Register) (file : File) (a : Asked) → only_asks a ≡ true → line_step r file a ≡ tells r (ask_step (held r) a)
@@ -65,16 +64,16 @@ module _ (line : List ℕ) (r : Line) where
 
   -- what a line that only asks says
   module _ (l : Ledger) {said : Said} where
-    pub engaged_said : {x y : List ℕ} {a : Engaged} → said ≡ said_engaged a → a ≡ ask_engagement l x y r.day r.number → x ≡ first_text line r →
-        y ≡ second_text line r → said ≡ said_engaged (ask_engagement l (first_text line r) (second_text line r) r.day r.number)
-    engaged_said f g h k = f ∙ ap said_engaged (g ∙ ap₂ (λ (x y : List ℕ). ask_engagement l x y r.day r.number) h k)
+    pub engaged_said : {x y : List ℕ} {a : Result ℕ Refusal} → said ≡ said_number a → a ≡ ask_engagement l x y r.day r.number → x ≡ first_text line r →
+        y ≡ second_text line r → said ≡ said_number (ask_engagement l (first_text line r) (second_text line r) r.day r.number)
+    engaged_said f g h k = f ∙ ap said_number (g ∙ ap₂ (λ (x y : List ℕ). ask_engagement l x y r.day r.number) h k)
 
-    pub engagement_said : r.kind ≡ Engagement → said ≡ said_engaged (ask_engagement l (first_text line r) (second_text line r) r.day r.number) →
+    pub engagement_said : r.kind ≡ Engagement → said ≡ said_number (ask_engagement l (first_text line r) (second_text line r) r.day r.number) →
         said ≡ ask_step l (asked line r)
     unfolding ask_step
     engagement_said e f = f ∙ ap (ask_step l) (sym (asked_by e))
 
-    pub record_said : {x : List ℕ} {a : Shown} → r.kind ≡ RecordOf → said ≡ said_shown a → a ≡ ask_record l x r.number → x ≡ first_text line r →
+    pub record_said : {x : List ℕ} {a : Result Shown Refusal} → r.kind ≡ RecordOf → said ≡ said_shown a → a ≡ ask_record l x r.number → x ≡ first_text line r →
         said ≡ ask_step l (asked line r)
     unfolding ask_step
     record_said e f g h = f ∙ ap said_shown (g ∙ ap (λ (x : List ℕ). ask_record l x r.number) h) ∙ ap (ask_step l) (sym (asked_by e))

@@ -1,10 +1,11 @@
 -- WHAT A LINE OF THE SCRIPT DOES to the register, and what it says (document 01, "The script program"): its call, or 11.
-use Rattle.std.specs.Prelude.{Bool, true, false, ℕ, Option, Some, None}
+use Rattle.std.specs.Prelude.{Bool, true, false, ℕ, Option, Some, None, Result}
 use Rattle.ledger.specs.Ledger.{Ledger}
 use Rattle.ledger.specs.Asking.{ask_engagement, ask_record}
 use Rattle.ledger.specs.declared.Entry.TheVariants.{SevenDays}
-use Rattle.notification.specs.declared.Reading.{Reading}
-use Rattle.answers.specs.Values.{said_engaged, said_shown, said_refused}
+use Rattle.refusals.specs.declared.Refusal.{Refusal}
+use Rattle.notification.specs.declared.Notification.{Notification}
+use Rattle.answers.specs.Values.{said_number, said_shown, said_refused}
 use Rattle.answers.specs.declared.Said.{Said}
 use Rattle.register.specs.View.{Register, held}
 use Rattle.register.specs.Written.{does, does_reading}
@@ -27,9 +28,13 @@ only_asks unknown = true
 unfoldable pub ask_step : Ledger → Asked → Said
 ask_step l (calls c) = said_refused no_call
 ask_step l (file_of submitter name) = said_refused no_call
-ask_step l (engagement actor category day s) = said_engaged (ask_engagement l actor category day s)
+ask_step l (engagement actor category day s) = said_number (ask_engagement l actor category day s)
 ask_step l (record_of asker id) = said_shown (ask_record l asker id)
 ask_step l unknown = said_refused no_call
+
+-- what a file is read as: a notification, or what refuses it
+abbrev pub Reading : Type 0
+Reading = Result Notification Refusal
 
 -- what the file that a line names is read as; none where it can't be read
 abbrev pub File : Type 0
@@ -40,6 +45,6 @@ unfoldable pub line_step : Register → File → Asked → Told
 line_step r file (calls c) = told (does r c)
 line_step r (Some reading) (file_of submitter name) = told (does_reading r SevenDays submitter reading)
 line_step r None (file_of submitter name) = tells r (said_refused no_call)
-line_step r file (engagement actor category day s) = tells r (said_engaged (ask_engagement (held r) actor category day s))
+line_step r file (engagement actor category day s) = tells r (said_number (ask_engagement (held r) actor category day s))
 line_step r file (record_of asker id) = tells r (said_shown (ask_record (held r) asker id))
 line_step r file unknown = tells r (said_refused no_call)

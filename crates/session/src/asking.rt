@@ -1,23 +1,23 @@
 // The lines that only ask: E and R, and those of no known form.
 ghost use Rattle.std.specs.Prelude.{◌≡◌};
 ghost use Rattle.ledger.specs.Asking.{ask_engagement};
-ghost use Rattle.answers.specs.Values.{said_engaged};
+ghost use Rattle.answers.specs.Values.{said_number};
 ghost use Rattle.script.specs.Spans.{first_text, second_text, asked};
 ghost use Rattle.session.specs.Lines.{ask_step};
 ghost use Rattle.session.specs.Stores.{ledger_in};
 
 use crate::store::Store;
-use answers::{Said, of_engaged, of_shown, refused};
+use answers::{Said, of_number, of_shown, refused};
 use script::parts::{first_text, second_text};
 use script::reading::{Kind, Line};
 
-// What a line of no known form is refused by.
+// What a line of no known form is refused by: a number of the program's own, as no call of the register refuses by it.
 pub(crate) const NO_CALL: u32 = 11;
 
 // What a line says that asks for an engagement, by what was read of it.
 pub fn engaged(store: &Store, line: &[u8], read: Line) -> Said
     ensures { result
-        ≡ said_engaged (ask_engagement (ledger_in store.now)
+        ≡ said_number (ask_engagement (ledger_in store.now)
         (first_text line.now read) (second_text line.now read) read.day read.number) }
 {
     let actor = first_text(line, read);
@@ -34,7 +34,7 @@ pub fn engaged(store: &Store, line: &[u8], read: Line) -> Said
         read.day,
         read.number,
     );
-    of_engaged(answer)
+    of_number(answer)
 }
 
 // What a line says that only asks, by what was read of it.

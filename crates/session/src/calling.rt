@@ -10,12 +10,13 @@ ghost use Rattle.session.specs.Stores.{register_in};
 use crate::asking::NO_CALL;
 use crate::store::Store;
 use answers::{Said, refused};
-use notification::Reading;
+use notification::Notification;
+use refusals::Refusal;
 use script::parts::{first_text, powers_of, second_text};
 use script::reading::{CallKind, Line};
 
 // What the file that a line names is read as; none where it can't be read.
-pub type File = Option<Reading>;
+pub type File = Option<Result<Notification, Refusal>>;
 
 // A call, by what was read of its line.
 pub(crate) fn called(store: &mut Store, call: CallKind, line: &[u8], read: Line) -> Said

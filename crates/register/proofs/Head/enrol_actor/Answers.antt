@@ -19,15 +19,15 @@ room : (c : In_default) →
     let a = c.args in (length a.code.now ≡ 16) × (a.self.actors.count < 8)
 room c =
     let a = c.args in
-    actor_room a.self no_columns no_loads a.code.now a.first a.last (head_entries a.self _ c.well_formed.0) (sym (c.actor_verdict-verdict.ensures no_columns no_loads) ∙ c.in_default.is)
+    actor_room a.self no_columns no_loads a.code.now a.first a.last (head_entries a.self _ c.well_formed.0) (sym (c.actor_verdict.ensures no_columns no_loads) ∙ c.in_default.is)
 
-pub returns-in-No : goal.returns-in-No
+pub returns-in-Err : goal.returns-in-Err
 unfolding verdict_of
-returns-in-No c =
+returns-in-Err c =
     let a = c.args in
     λ columns loads.
     ap (λ (y : Reply). seen (lent y.head columns loads) y.answer) c.refused.ensures
-    ∙ does_refused (lent a.self columns loads) (enrol_actor a.code.now a.first a.last) _ _ (c.actor_verdict-verdict.ensures columns loads) c.in-No.is
+    ∙ does_refused (lent a.self columns loads) (enrol_actor a.code.now a.first a.last) _ _ (c.actor_verdict.ensures columns loads) c.in-Err.is
 
 pub with-actors-requires : goal.with-actors-requires
 with-actors-requires c = (room (goal.at.with-actors-requires c).In_default).1
@@ -36,5 +36,5 @@ pub returns : goal.returns
 returns c =
     let a = c.args in
     λ columns loads.
-    actor_done a.self columns loads a.code.now a.first a.last (head_entries a.self _ c.well_formed.0) (sym (c.actor_verdict-verdict.ensures columns loads) ∙ c.in_default.is)
-    _ c.with-actors.result (c.sixteen.ensures ∙ filled_all 16 a.code.now (room (goal.at.returns c).In_default).0) c.with-actors.ensures.1
+    actor_done a.self columns loads a.code.now a.first a.last (head_entries a.self _ c.well_formed.0) (sym (c.actor_verdict.ensures columns loads) ∙ c.in_default.is)
+    _ c.with-actors.result (c.in_bytes.ensures ∙ filled_all 16 a.code.now (room (goal.at.returns c).In_default).0) c.with-actors.ensures.1

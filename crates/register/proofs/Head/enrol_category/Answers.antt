@@ -17,15 +17,15 @@ room : (c : In_default) → c.args.self.categories.count < 4
 room c =
     let a = c.args in
     let l = categories_length a.self.categories _ c.well_formed.0.1.1.1.1.0 in
-    (category_room a.self no_columns no_loads a.text.now l (sym (c.category_verdict-verdict.ensures no_columns no_loads) ∙ c.in_default.is)).1
+    (category_room a.self no_columns no_loads a.text.now l (sym (c.category_verdict.ensures no_columns no_loads) ∙ c.in_default.is)).1
 
-pub returns-in-No : goal.returns-in-No
+pub returns-in-Err : goal.returns-in-Err
 unfolding verdict_of
-returns-in-No c =
+returns-in-Err c =
     let a = c.args in
     λ columns loads.
     ap (λ (y : Reply). seen (lent y.head columns loads) y.answer) c.refused.ensures
-    ∙ does_refused (lent a.self columns loads) (enrol_category a.text.now) _ _ (c.category_verdict-verdict.ensures columns loads) c.in-No.is
+    ∙ does_refused (lent a.self columns loads) (enrol_category a.text.now) _ _ (c.category_verdict.ensures columns loads) c.in-Err.is
 
 pub with-categories-requires : goal.with-categories-requires
 with-categories-requires c = room (goal.at.with-categories-requires c).In_default
@@ -35,5 +35,5 @@ returns c =
     let a = c.args in
     let l = categories_length a.self.categories _ c.well_formed.0.1.1.1.1.0 in
     λ columns loads.
-    category_done a.self columns loads a.text.now l (sym (c.category_verdict-verdict.ensures columns loads) ∙ c.in_default.is)
-    _ c.with-categories.result c.six.ensures c.with-categories.ensures.1
+    category_done a.self columns loads a.text.now l (sym (c.category_verdict.ensures columns loads) ∙ c.in_default.is)
+    _ c.with-categories.result c.in_bytes.ensures c.with-categories.ensures.1

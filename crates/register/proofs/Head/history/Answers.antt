@@ -2,46 +2,51 @@
 use mathlib.Core.Path.{◌≡◌, sym, ◌∙◌}
 use mathlib.Core.List.{[]}
 use native.Mathlib.Omega.{arith}
-use lib.Dec.{ltb}
 use lib.ListN.{length}
-use Rattle.refusals.specs.Tests.{state}
-use Rattle.refusals.specs.declared.StateRefusal.TheVariants.{Full}
-use Rattle.refusals.specs.declared.Verdict.TheVariants.{Pass}
-use Rattle.refusals.proofs.Tests.{tried_all, then_tried}
-use Rattle.tables.specs.Tables.{columns, actors_in}
-use Rattle.register.proofs.Parties.{head_actors}
+use Rattle.std.proofs.lemmas.Result.{err_from_is_err_and}
+use Rattle.refusals.specs.Tests.{state, first_met, pass}
+use Rattle.tables.specs.Tables.{columns}
+use Rattle.register.proofs.Trying.{refuses, goes_on}
 use Rattle.register.proofs.CallTests.{no_loads}
 use Rattle.register.proofs.Answers.{history_tried, listed_refused, listed_room, listed_all}
 use Rattle.register.proofs.Head.history.Goals as goal
-use Rattle.register.proofs.Head.history.Goals.{After-try_state-v-2}
+use Rattle.register.proofs.Head.history.Goals.{In_ok-refuse_if-2}
 
--- how many actors there are, and what is tried
-module _ (c : After-try_state-v-2) where
-  actors : length (actors_in c.args.self.actors) ≡ c.least.result
-  actors = head_actors c.args.self _ c.well_formed.0 ∙ sym c.least.ensures
+-- both tests passed
+passed : (c : In_ok-refuse_if-2) →
+    first_met (history_tried c.place-a.result c.len.result (length c.args.out.now) c.count_ids-count.result) ≡ pass
+passed c = goes_on state _ _ _ _ c.in_ok-refuse_if.ensures ∙ goes_on state _ _ _ _ c.in_ok-refuse_if-2.ensures
 
-  tested : c.try_state-v-2.result
-      ≡ tried_all Pass (history_tried c.place-a.result c.least.result (length c.args.out.now) c.count_ids-count.result)
-  tested =
-      then_tried _ _ _ (ltb (length c.args.out.now) c.count_ids-count.result) (state Full) c.try_state-v-2.ensures c.try_state-v.ensures
-
-pub returns-in-No : goal.returns-in-No
-returns-in-No c statuses marks rows loads =
+pub returns-in_err-refuse_if : goal.returns-in_err-refuse_if
+returns-in_err-refuse_if c statuses marks rows loads =
     let a = c.args in
-    listed_refused a.self (columns statuses a.ids.now a.keys.now marks rows) loads a.actor.now a.out.now _ _ _ _
-    (actors (goal.at.returns-in-No c).After-try_state-v-2) c.place-a.ensures c.least-n.ensures (c.count_ids-count.ensures.0 a.ids.now) _ (tested (goal.at.returns-in-No c).After-try_state-v-2) _ c.in-No.is
+    let p = err_from_is_err_and c.from_residual.result c.from_residual.ensures.1 in
+    rw (p.1, p.2)
+    (listed_refused a.self (columns statuses a.ids.now a.keys.now marks rows) loads a.actor.now a.out.now _ _ _ _
+    (sym c.len.ensures) c.place-a.ensures c.min-n.ensures (c.count_ids-count.ensures.0 a.ids.now) _
+    (refuses state _ _ _ _ c.in_err-refuse_if.ensures))
+
+pub returns-in_err-refuse_if-2 : goal.returns-in_err-refuse_if-2
+returns-in_err-refuse_if-2 c statuses marks rows loads =
+    let a = c.args in
+    let p = err_from_is_err_and c.from_residual-in_err-refuse_if-2.result c.from_residual-in_err-refuse_if-2.ensures.1 in
+    rw (p.1, p.2)
+    (listed_refused a.self (columns statuses a.ids.now a.keys.now marks rows) loads a.actor.now a.out.now _ _ _ _
+    (sym c.len.ensures) c.place-a.ensures c.min-n.ensures (c.count_ids-count.ensures.0 a.ids.now) _
+    (goes_on state _ _ _ _ c.in_ok-refuse_if.ensures ∙ refuses state _ _ _ _ c.in_err-refuse_if-2.ensures))
 
 pub put_ids-requires : goal.put_ids-requires
 put_ids-requires c =
     let a = c.args in (
-      omega (arith, c.least-n.ensures),
+      omega (arith, c.min-n.ensures),
       listed_room a.self (columns [] a.ids.now a.keys.now [] []) no_loads a.actor.now a.out.now _ _ _ _
-          (actors (goal.at.put_ids-requires c).After-try_state-v-2) c.place-a.ensures c.least-n.ensures (c.count_ids-count.ensures.0 a.ids.now) _ (tested (goal.at.put_ids-requires c).After-try_state-v-2) c.in_default.is,
+          (sym c.len.ensures) c.place-a.ensures c.min-n.ensures (c.count_ids-count.ensures.0 a.ids.now)
+          (passed (goal.at.put_ids-requires c).In_ok-refuse_if-2),
     )
 
 pub returns : goal.returns
 returns c statuses marks rows loads =
     let a = c.args in
     listed_all a.self (columns statuses a.ids.now a.keys.now marks rows) loads a.actor.now a.out.now _ _ _ _
-    (actors (goal.at.returns c).After-try_state-v-2) c.place-a.ensures c.least-n.ensures (c.count_ids-count.ensures.0 a.ids.now) _ (tested (goal.at.returns c).After-try_state-v-2) c.in_default.is
-    _ c.put_ids.ensures
+    (sym c.len.ensures) c.place-a.ensures c.min-n.ensures (c.count_ids-count.ensures.0 a.ids.now)
+    (passed (goal.at.returns c).In_ok-refuse_if-2) _ c.put_ids.ensures

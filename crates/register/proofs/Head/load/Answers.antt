@@ -22,17 +22,17 @@ room t =
     let a = t.args in
     load_room a.self no_columns (load_columns a.numbers.now [] []) a.actor.now a.category.now a.day a.most a.powers.now
     (head_entries a.self _ t.well_formed.0) (categories_length a.self.categories _ t.well_formed.0.1.1.1.1.0)
-    (sym (t.load_verdict-verdict.ensures no_columns [] []) ∙ t.in_default.is)
+    (sym (t.load_verdict.ensures no_columns [] []) ∙ t.in_default.is)
 
-pub returns-in-No : goal.returns-in-No
+pub returns-in-Err : goal.returns-in-Err
 unfolding verdict_of
-returns-in-No c =
+returns-in-Err c =
     let a = c.args in
     let loads = load_columns a.numbers.now a.approved.now a.loads.now in
     λ columns.
     ap (λ (y : Reply). seen (lent y.head columns loads) y.answer) c.refused.ensures
     ∙ does_refused (lent a.self columns loads) (load a.actor.now a.category.now a.day a.most a.powers.now) _ _
-    (c.load_verdict-verdict.ensures columns a.approved.now a.loads.now) c.in-No.is
+    (c.load_verdict.ensures columns a.approved.now a.loads.now) c.in-Err.is
 
 pub load_number-number-requires : goal.load_number-number-requires
 load_number-number-requires c =
@@ -44,8 +44,8 @@ in_places-row-requires c =
     let k = room (goal.at.in_places-row-requires c).In_default in
     (k.few, k.small)
 
-pub overflow_cast-numbers : goal.overflow_cast-numbers
-overflow_cast-numbers c = omega (arith, (room (goal.at.overflow_cast-numbers c).In_default).room)
+pub overflow_cast-at : goal.overflow_cast-at
+overflow_cast-at c = omega (arith, (room (goal.at.overflow_cast-at c).In_default).room)
 
 pub offset_bounds-numbers-at : goal.offset_bounds-numbers-at
 offset_bounds-numbers-at c = omega (arith, (room (goal.at.offset_bounds-numbers-at c).In_default).room)
@@ -56,17 +56,11 @@ bounds-numbers-at c = (room (goal.at.bounds-numbers-at c).In_default).room
 pub overflow_cast-approved : goal.overflow_cast-approved
 overflow_cast-approved c = omega (arith, (room (goal.at.overflow_cast-approved c).In_default).most_small)
 
-pub overflow_cast-approved-2 : goal.overflow_cast-approved-2
-overflow_cast-approved-2 c = omega (arith, (room (goal.at.overflow_cast-approved-2 c).In_default).room)
-
 pub offset_bounds-approved-at : goal.offset_bounds-approved-at
 offset_bounds-approved-at c = omega (arith, (room (goal.at.offset_bounds-approved-at c).In_default).room)
 
 pub bounds-approved-at : goal.bounds-approved-at
 bounds-approved-at c = (room (goal.at.bounds-approved-at c).In_default).room
-
-pub overflow_cast-row : goal.overflow_cast-row
-overflow_cast-row c = omega (arith, (room (goal.at.overflow_cast-row c).In_default).room)
 
 pub offset_bounds-loads-at : goal.offset_bounds-loads-at
 offset_bounds-loads-at c = omega (arith, (room (goal.at.offset_bounds-loads-at c).In_default).room)
@@ -74,11 +68,8 @@ offset_bounds-loads-at c = omega (arith, (room (goal.at.offset_bounds-loads-at c
 pub bounds-loads-at : goal.bounds-loads-at
 bounds-loads-at c = (room (goal.at.bounds-loads-at c).In_default).room
 
-pub overflow_add-head : goal.overflow_add-head
-overflow_add-head c = omega (arith, (room (goal.at.overflow_add-head c).In_default).room)
-
-pub overflow_add-result : goal.overflow_add-result
-overflow_add-result c = omega (arith, (room (goal.at.overflow_add-result c).In_default).room)
+pub overflow_add-count : goal.overflow_add-count
+overflow_add-count c = omega (arith, (room (goal.at.overflow_add-count c).In_default).room)
 
 pub returns : goal.returns
 returns c =
@@ -87,6 +78,6 @@ returns c =
     λ columns.
     load_done a.self columns loads a.actor.now a.category.now a.day a.most a.powers.now
     (head_entries a.self _ c.well_formed.0) (categories_length a.self.categories _ c.well_formed.0.1.1.1.1.0)
-    (sym (c.load_verdict-verdict.ensures columns a.approved.now a.loads.now) ∙ c.in_default.is)
+    (sym (c.load_verdict.ensures columns a.approved.now a.loads.now) ∙ c.in_default.is)
     _ _ _ _ c.place.ensures c.place-2.ensures c.load_number-number.ensures c.in_places-row.ensures
     c.told-numbers c.told-approved c.told-loads

@@ -1,67 +1,72 @@
--- `Head::load_verdict` meets its contract: four tests are tried one after the other, then two by what is found of the number.
+-- `Head::load_verdict` meets its contract: the first four tests, and then the load's place.
 use mathlib.Core.Path.{◌≡◌, sym, ◌∙◌}
-use mathlib.Core.List.{[], ◌∷◌}
 use mathlib.Core.Bool.{not}
-use Prim.Native.Nat.{◌<◌}
+use mathlib.Core.List.{List, [], ◌∷◌}
+use Prim.Native.Nat.{ℕ, ◌<◌}
 use native.Mathlib.Omega.{arith}
 use lib.Dec.{ltb}
-use lib.ListN.{length}
-use Rattle.refusals.specs.Tests.{input, state}
-use Rattle.refusals.specs.declared.Verdict.TheVariants.{Pass}
-use Rattle.refusals.specs.declared.InputRefusal.TheVariants.{Range}
-use Rattle.refusals.specs.declared.StateRefusal.TheVariants.{ActorUnknown, CategoryUnknown, LoadDay}
-use Rattle.refusals.proofs.Tests.{tried_all}
-use Rattle.tables.specs.Tables.{load_columns, actors_in, categories_in}
-use Rattle.register.proofs.CallTests.{no_columns, no_loads, load_refused, load_named, load_is_lem, ranged_day, has_load_lem}
-use Rattle.register.proofs.Parties.{head_actors, head_categories}
+use Rattle.std.proofs.lemmas.Result.{err_from_is_err_and}
+use Rattle.refusals.specs.Tests.{state, input, first_met, pass}
+use Rattle.refusals.specs.declared.StateRefusal.TheVariants.{There, Full}
+use Rattle.ledger.specs.Calls.{load_tests}
+use Rattle.tables.specs.Tables.{Columns, LoadColumns, load_columns}
+use Rattle.register.specs.View.{view}
+use Rattle.register.proofs.Trying.{refuses, goes_on}
+use Rattle.register.proofs.Filings.{actors_few, categories_few}
+use Rattle.register.proofs.CallTests.{no_columns, no_loads, named_tried, load_named, load_is_lem, has_load_lem, ranged_day}
 use Rattle.register.proofs.Head.load_verdict.Goals as goal
-use Rattle.register.proofs.Head.load_verdict.Goals.{After-try_state-v-3, In_default}
+use Rattle.register.proofs.Head.load_verdict.Goals.{In_ok-refuse_if-4, After-is_some-there}
 
--- what is known when four tests are tried
-module _ (t : After-try_state-v-3) where
-  actors-in : length (actors_in t.args.self.actors) ≡ t.least.result
-  actors-in = head_actors t.args.self _ t.well_formed.0 ∙ sym t.least.ensures
+-- the first four passed
+first_four : (c : In_ok-refuse_if-4) →
+    first_met (named_tried c.len.result c.len-2.result c.place-a.result c.place-z.result c.is_ranged.result c.loadable.result) ≡ pass
+first_four c =
+    goes_on input _ _ _ _ c.in_ok-refuse_if.ensures ∙ goes_on state _ _ _ _ c.in_ok-refuse_if-2.ensures ∙ goes_on state _ _ _ _ c.in_ok-refuse_if-3.ensures
+    ∙ goes_on state _ _ _ _ c.in_ok-refuse_if-4.ensures
 
-  categories-in : length (categories_in t.args.self.categories) ≡ t.least-2.result
-  categories-in = head_categories t.args.self _ t.well_formed.0 ∙ sym t.least-2.ensures
-
-  first-four :
-      t.try_state-v-3.result
-      ≡ tried_all Pass
-      ((not t.is_ranged.result, input Range) ∷ (not (ltb t.place-a.result t.least.result), state ActorUnknown)
-      ∷ (not (ltb t.place-z.result t.least-2.result), state CategoryUnknown)
-      ∷ (not t.loadable.result, state LoadDay) ∷ [])
-  first-four = cc
-
--- where they pass, the actor, the category and the day make a number
-small : (c : In_default) →
-    (c.place-a.result < 8) × (c.place-z.result < 4) × (c.args.day < 36525)
+-- what they leave to be known
+small : (c : In_ok-refuse_if-4) → (c.place-a.result < 8) × (c.place-z.result < 4) × (c.args.day < 36525)
 small c =
     let a = c.args in
-    let k = load_named a.self no_columns no_loads _ _ (actors-in (goal.at.In_default c).After-try_state-v-3) (categories-in (goal.at.In_default c).After-try_state-v-3) a.actor.now a.category.now
-    _ _ c.place-a.ensures c.place-z.ensures
-    a.day a.most a.powers.now _ _ c.is_ranged.ensures c.loadable.ensures (sym (first-four (goal.at.In_default c).After-try_state-v-3) ∙ c.in_default.is) in
-    (omega (arith, k.1, c.least.ensures), omega (arith, k.2, c.least-2.ensures), ranged_day a.day a.most a.powers.now (sym c.is_ranged.ensures ∙ k.0))
-
-pub returns-in-No : goal.returns-in-No
-returns-in-No c =
-    let a = c.args in
-    λ columns approved rows.
-    load_refused a.self columns (load_columns a.numbers.now approved rows) _ _ (actors-in (goal.at.returns-in-No c).After-try_state-v-3) (categories-in (goal.at.returns-in-No c).After-try_state-v-3) a.actor.now a.category.now
-    _ _ c.place-a.ensures c.place-z.ensures
-    a.day a.most a.powers.now _ _ c.is_ranged.ensures c.loadable.ensures _ (sym (first-four (goal.at.returns-in-No c).After-try_state-v-3) ∙ c.in-No.is)
+    let k = load_named a.self no_columns no_loads _ _ (sym c.len.ensures) (sym c.len-2.ensures) a.actor.now a.category.now _ _ c.place-a.ensures c.place-z.ensures
+    a.day a.most a.powers.now _ _ c.is_ranged.ensures c.loadable.ensures (first_four c) in (
+      omega (arith, k.1, c.len.ensures, actors_few a.self.actors),
+      omega (arith, k.2, c.len-2.ensures, categories_few a.self.categories),
+      ranged_day a.day a.most a.powers.now (sym c.is_ranged.ensures ∙ k.0),
+    )
 
 pub load_number-requires : goal.load_number-requires
-load_number-requires c = small c
+load_number-requires c = small (goal.at.load_number-requires c).In_ok-refuse_if-4
+
+-- and the last two decide
+module _ (c : After-is_some-there) (columns : Columns) (approved : List ℕ) (rows : List (List ℕ)) where
+  abbrev first : In_ok-refuse_if-4
+  first = (goal.at.After-is_some-there c).In_ok-refuse_if-4
+
+  last_two : first_met ((c.is_some-there.result, state There) ∷ (not (ltb c.args.self.loads 64), state Full) ∷ [])
+      ≡ first_met (load_tests (view c.args.self columns (load_columns c.args.numbers.now approved rows)) c.args.actor.now c.args.category.now c.args.day c.args.most c.args.powers.now)
+  last_two =
+      let a = c.args in
+      let loads = load_columns a.numbers.now approved rows in
+      let k = small first in
+      load_is_lem a.self columns loads _ _ (sym c.len.ensures) (sym c.len-2.ensures) a.actor.now a.category.now _ _ c.place-a.ensures c.place-z.ensures
+      a.day a.most a.powers.now _ _ c.is_ranged.ensures c.loadable.ensures (first_four first) _
+      (c.is_some-there.ensures ∙ has_load_lem a.self.loads loads _ _ a.day _ _ k.0 k.1 c.load_number.ensures c.last_of.ensures)
+
+pub returns-in_err-refuse_if-5 : goal.returns-in_err-refuse_if-5
+returns-in_err-refuse_if-5 c columns approved rows =
+    let p = err_from_is_err_and c.from_residual-in_err-refuse_if-5.result c.from_residual-in_err-refuse_if-5.ensures.1 in
+    rw (p.1, p.2)
+    (sym (refuses state _ _ _ _ c.in_err-refuse_if-5.ensures) ∙ last_two (goal.at.returns-in_err-refuse_if-5 c).After-is_some-there columns approved rows)
+
+pub returns-in_err-refuse_if-6 : goal.returns-in_err-refuse_if-6
+returns-in_err-refuse_if-6 c columns approved rows =
+    let p = err_from_is_err_and c.from_residual-in_err-refuse_if-6.result c.from_residual-in_err-refuse_if-6.ensures.1 in
+    rw (p.1, p.2)
+    (sym (goes_on state _ _ _ _ c.in_ok-refuse_if-5.ensures ∙ refuses state _ _ _ _ c.in_err-refuse_if-6.ensures)
+    ∙ last_two (goal.at.returns-in_err-refuse_if-6 c).After-is_some-there columns approved rows)
 
 pub returns : goal.returns
-returns c =
-    let a = c.args in
-    let k = small (goal.at.returns c).In_default in
-    λ columns approved rows.
-    let loads = load_columns a.numbers.now approved rows in
-    let there = c.is_at-there.ensures ∙ has_load_lem a.self.loads loads _ _ a.day _ _ k.0 k.1 c.load_number.ensures c.last_of.ensures in
-    let e = load_is_lem a.self columns loads _ _ (actors-in (goal.at.returns c).After-try_state-v-3) (categories-in (goal.at.returns c).After-try_state-v-3) a.actor.now a.category.now
-    _ _ c.place-a.ensures c.place-z.ensures
-    a.day a.most a.powers.now _ _ c.is_ranged.ensures c.loadable.ensures (sym (first-four (goal.at.returns c).After-try_state-v-3) ∙ c.in_default.is) _ _ c.least-3.ensures there in
-    cc
+returns c columns approved rows =
+    sym (goes_on state _ _ _ _ c.in_ok-refuse_if-5.ensures ∙ goes_on state _ _ _ _ c.in_ok-refuse_if-6.ensures)
+    ∙ last_two (goal.at.returns c).After-is_some-there columns approved rows

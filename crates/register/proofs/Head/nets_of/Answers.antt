@@ -10,7 +10,7 @@ key_number-own-requires c = let j = c.requires.0 in (j.ceder, j.acquirer, j.cate
 
 pub pass_records-requires : goal.pass_records-requires
 pass_records-requires c = (
-  omega (arith, c.least-n.ensures),
+  omega (arith, c.min-n.ensures),
   omega (arith, c.steps_of-until.ensures, steps_small c.args.at.day),
   c.start_net.ensures.between,
   c.start_net-2.ensures.between,
@@ -21,9 +21,9 @@ pub returns : goal.returns
 returns c =
     let a = c.args in
     let own = c.key_number-own.ensures.0 in
-    let few = c.least-n.ensures in (
+    let few = c.min-n.ensures in (
       (λ ids.
-          netted_at a.self _ a.loads.now a.ceders a.acquirers a.at _ _ _ _ _ _ own few c.first_counted-first.ensures
+          netted_at a.self _ a.rows.now a.ceders a.acquirers a.at _ _ _ _ _ _ own few c.first_counted-first.ensures
           c.steps_of-until.ensures c.start_net.ensures c.start_net-2.ensures (c.pass_records.ensures.0 ids)),
-      under_listed a.self a.at _ own a.keys.now _ _ _ few c.pass_records.ensures.1,
+      under_listed a.self a.at _ own a.records.keys.now _ _ _ few c.pass_records.ensures.1,
     )

@@ -9,4 +9,4 @@ slice_bounds-place-end-2 c =
 
 pub returns : goal.returns
 returns c cols loads =
-    placed c.args.self cols loads _ c.args.n _ _ _ _ c.place-c.ensures c.place-a.ensures c.place-by.ensures c.place_of_six-z.ensures
+    placed c.args.self cols loads _ c.args.n _ _ _ _ c.place.ensures c.place-2.ensures c.place-3.ensures c.place_of_six.ensures

@@ -1,54 +1,58 @@
 -- `Head::record` meets its contract: the three tests, then the record of the id.
 use mathlib.Core.Path.{◌≡◌, sym, ◌∙◌}
-use mathlib.Core.Bool.{not}
 use Prim.Native.Nat.{◌<◌}
-use lib.ListN.{length}
-use Rattle.refusals.specs.Tests.{state}
-use Rattle.refusals.specs.declared.StateRefusal.TheVariants.{NoRecord, NotAsker}
-use Rattle.refusals.specs.declared.Verdict.TheVariants.{Pass}
-use Rattle.refusals.proofs.Tests.{tried_all, then_tried}
-use Rattle.tables.specs.Tables.{Columns, columns, actors_in}
-use Rattle.register.proofs.Parties.{head_actors}
+use Rattle.std.proofs.lemmas.Result.{err_from_is_err_and}
+use Rattle.refusals.specs.Tests.{state, first_met, pass}
+use Rattle.tables.specs.Tables.{Columns, columns}
+use Rattle.register.proofs.Trying.{refuses, goes_on, none_told}
 use Rattle.register.proofs.ShownRecords.{record_tried, found_below, shown_refused, shown_found}
 use Rattle.register.proofs.Head.record.Goals as goal
-use Rattle.register.proofs.Head.record.Goals.{After-try_state-v-2, After-try_state-v-3}
+use Rattle.register.proofs.Head.record.Goals.{Start, After-unwrap_or-i}
+
+abbrev cols : Start → Columns
+cols b = let a = b.args in columns a.statuses.now a.ids.now a.keys.now a.marks.now a.rows.now
 
 -- a record that is found has a place in the columns
-placed : (c : After-try_state-v-2) → c.found_at-i.result < 256
+placed : (c : After-unwrap_or-i) → c.unwrap_or-i.result < 256
 placed c =
     let a = c.args in
-    rw c.found_at-i.ensures (found_below a.ids.now a.id a.self.records _ c.find_id-found.ensures)
+    rw c.unwrap_or-i.ensures (found_below a.ids.now a.id a.self.records _ c.find_id-found.ensures)
 
--- who asks, what is found, how many actors there are, and what is tried
-module _ (c : After-try_state-v-3) where
-  abbrev cols : Columns
-  cols =
-      columns c.args.statuses.now c.args.ids.now c.args.keys.now c.args.marks.now c.args.rows.now
+pub returns-in_err-refuse_if : goal.returns-in_err-refuse_if
+returns-in_err-refuse_if c loads =
+    let a = c.args in
+    let p = err_from_is_err_and c.from_residual.result c.from_residual.ensures.1 in
+    rw (p.1, p.2)
+    (shown_refused a.self (cols (goal.at.returns-in_err-refuse_if c).Start) loads a.asker.now a.id _ _ _ (sym c.len.ensures) c.place-a.ensures c.find_id-found.ensures _
+    (refuses state _ _ _ _ c.in_err-refuse_if.ensures))
 
-  actors : length (actors_in c.args.self.actors) ≡ c.least.result
-  actors = head_actors c.args.self _ c.well_formed.0 ∙ sym c.least.ensures
-
-  tested : c.try_state-v-3.result
-      ≡ tried_all Pass (record_tried cols c.place-a.result c.least.result c.find_id-found.result)
-  tested =
-      rw (← c.is_at.ensures, ← c.found_at-i.ensures, ← c.is_party.ensures)
-      (then_tried _ _ _ (not c.is_party.result) (state NotAsker) c.try_state-v-3.ensures
-      (then_tried _ _ _ (not c.is_at.result) (state NoRecord) c.try_state-v-2.ensures c.try_state-v.ensures))
+pub returns-in_err-refuse_if-2 : goal.returns-in_err-refuse_if-2
+returns-in_err-refuse_if-2 c loads =
+    let a = c.args in
+    let p = err_from_is_err_and c.from_residual-in_err-refuse_if-2.result c.from_residual-in_err-refuse_if-2.ensures.1 in
+    rw (p.1, p.2)
+    (shown_refused a.self (cols (goal.at.returns-in_err-refuse_if-2 c).Start) loads a.asker.now a.id _ _ _ (sym c.len.ensures) c.place-a.ensures c.find_id-found.ensures _
+    (goes_on state _ _ _ _ c.in_ok-refuse_if.ensures ∙ refuses state _ _ _ _ (rw (none_told _ _ c.is_none.ensures) at c.in_err-refuse_if-2.ensures)))
 
 pub bounds-keys-i : goal.bounds-keys-i
-bounds-keys-i c = placed (goal.at.bounds-keys-i c).After-try_state-v-2
+bounds-keys-i c = placed (goal.at.bounds-keys-i c).After-unwrap_or-i
 
-pub returns-in-No : goal.returns-in-No
-returns-in-No c loads =
+pub returns-in_err-refuse_if-3 : goal.returns-in_err-refuse_if-3
+returns-in_err-refuse_if-3 c loads =
     let a = c.args in
-    c.not_shown.ensures
-    ∙ shown_refused a.self (cols (goal.at.returns-in-No c).After-try_state-v-3) loads a.asker.now a.id _ _ _ (actors (goal.at.returns-in-No c).After-try_state-v-3) c.place-a.ensures c.find_id-found.ensures _ (tested (goal.at.returns-in-No c).After-try_state-v-3) _ c.in-No.is
+    let p = err_from_is_err_and c.from_residual-in_err-refuse_if-3.result c.from_residual-in_err-refuse_if-3.ensures.1 in
+    rw (p.1, p.2)
+    (shown_refused a.self (cols (goal.at.returns-in_err-refuse_if-3 c).Start) loads a.asker.now a.id _ _ _ (sym c.len.ensures) c.place-a.ensures c.find_id-found.ensures _
+    (goes_on state _ _ _ _ c.in_ok-refuse_if.ensures ∙ goes_on state _ _ _ _ (rw (none_told _ _ c.is_none.ensures) at c.in_ok-refuse_if-2.ensures)
+    ∙ refuses state _ _ _ _ (rw (c.is_party.ensures, c.unwrap_or-i.ensures) at c.in_err-refuse_if-3.ensures)))
 
 pub shown_at-requires : goal.shown_at-requires
-shown_at-requires c = placed (goal.at.shown_at-requires c).After-try_state-v-2
+shown_at-requires c = placed (goal.at.shown_at-requires c).After-unwrap_or-i
 
 pub returns : goal.returns
 returns c loads =
     let a = c.args in
-    shown_found a.self (cols (goal.at.returns c).After-try_state-v-3) loads a.asker.now a.id _ _ _ (actors (goal.at.returns c).After-try_state-v-3) c.place-a.ensures c.find_id-found.ensures _ (tested (goal.at.returns c).After-try_state-v-3) c.in_default.is _
-    (rw (← c.found_at-i.ensures) (c.shown_at.ensures a.ids.now loads))
+    shown_found a.self (cols (goal.at.returns c).Start) loads a.asker.now a.id _ _ _ (sym c.len.ensures) c.place-a.ensures c.find_id-found.ensures
+    (goes_on state _ _ _ _ c.in_ok-refuse_if.ensures ∙ goes_on state _ _ _ _ (rw (none_told _ _ c.is_none.ensures) at c.in_ok-refuse_if-2.ensures)
+    ∙ goes_on state _ _ _ _ (rw (c.is_party.ensures, c.unwrap_or-i.ensures) at c.in_ok-refuse_if-3.ensures))
+    _ (rw (← c.unwrap_or-i.ensures) (c.shown_at.ensures a.ids.now loads))

@@ -73,8 +73,8 @@ offset_bounds-rows-place c = omega (arith, room (goal.at.offset_bounds-rows-plac
 pub bounds-rows-place : goal.bounds-rows-place
 bounds-rows-place c = room (goal.at.bounds-rows-place c).After-status_of-status
 
-pub overflow_add-head : goal.overflow_add-head
-overflow_add-head c = omega (arith, room (goal.at.overflow_add-head c).After-status_of-status)
+pub overflow_add-result : goal.overflow_add-result
+overflow_add-result c = omega (arith, room (goal.at.overflow_add-result c).After-status_of-status)
 
 pub returns : goal.returns
 returns c =

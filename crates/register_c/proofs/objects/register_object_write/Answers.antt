@@ -5,6 +5,6 @@ use Rattle.register_c.proofs.objects.register_object_write.Goals as goal
 pub returns : goal.returns
 returns c =
     object_written_of c.args.buffer.now
-    c.request_to_write-request.ensures
+    c.from-request.ensures
     (c.write_object-answer.ensures.value, c.write_object-answer.ensures.buffer_after)
-    c.flat_object_written.ensures
+    c.into.ensures

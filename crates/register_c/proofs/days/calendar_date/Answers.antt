@@ -1,4 +1,0 @@
-use Rattle.register_c.proofs.days.calendar_date.Goals as goal
-
-pub returns : goal.returns
-returns c = cc

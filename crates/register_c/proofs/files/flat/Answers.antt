@@ -1,4 +1,0 @@
-use Rattle.register_c.proofs.files.flat.Goals as goal
-
-pub returns : goal.returns
-returns c = cc

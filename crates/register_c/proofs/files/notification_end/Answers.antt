@@ -1,4 +1,0 @@
-use Rattle.register_c.proofs.files.notification_end.Goals as goal
-
-pub returns : goal.returns
-returns c = cc
