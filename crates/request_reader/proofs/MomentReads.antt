@@ -14,7 +14,6 @@ use Rattle.std.proofs.lemmas.Option.{none-some}
 use Rattle.lists.proofs.Tests.{by_test, true_false, and_left, and_right}
 use Rattle.calendar.specs.Dates.{day_count}
 use Rattle.calendar.specs.Texts.{tens, ones, digit, text_of, pair_of, day_at, day_of}
-use Rattle.calendar.specs.declared.texts.Day.TheVariants.{Number, NoDay}
 use Rattle.calendar.proofs.Reading.{eight_read}
 use Rattle.calendar.proofs.TwoWays.{read_text, text_read, pair_digits, digits_pair}
 use Rattle.request.specs.Moments.{day_seconds, in_time, moment_text, moment_in, is_moment_text}
@@ -78,7 +77,7 @@ module _ (s : List ℕ) (e : length s ≡ 20) where
       ≡ day_of (date_digits s)
   day_read_lem = eight_read date_bytes refl ∙ ap day_of (sym its_date)
 
-  made : (n : ℕ) → day_of (date_digits s) ≡ Number n → Parted → (moment_text (record { day = n; second = 3600 * h + 60 * m + t }) ≡ s) × (n < day_count)
+  made : (n : ℕ) → day_of (date_digits s) ≡ Some n → Parted → (moment_text (record { day = n; second = 3600 * h + 60 * m + t }) ≡ s) × (n < day_count)
   unfolding bytes_from moment_text
   made n d p =
       let r = read_text (date_digits s) n d in
@@ -141,7 +140,7 @@ text_time x k l =
     let c : n % 60 < 60 = omega arith in
     rw (lt-ltb x.day day_count k, pair_digits (n / 3600) (omega arith), pair_digits (n / 60 % 60) (omega arith), pair_digits (n % 60) (omega arith), lt-ltb (n / 3600) 24 a, lt-ltb (n / 60 % 60) 60 b, lt-ltb (n % 60) 60 c) (let e : 3600 * (n / 3600) + 60 * (n / 60 % 60) + n % 60 ≡ n = omega arith in ap Some e)
 
-text_date : (x : Moment) → x.day < day_count → day_of (date_digits (moment_text x)) ≡ Number x.day
+text_date : (x : Moment) → x.day < day_count → day_of (date_digits (moment_text x)) ≡ Some x.day
 unfolding moment_text text_of
 text_date x k = rw (lt-ltb x.day day_count k) (rw (lt-ltb x.day day_count k) at (text_read x.day k))
 
@@ -149,7 +148,7 @@ text_date x k = rw (lt-ltb x.day day_count k) (rw (lt-ltb x.day day_count k) at 
 
 module _ (s : List ℕ) where
   -- a moment's text has its marks, a time and a day
-  moment_parts : is_moment_text s ≡ true → (marks_stand s ≡ true) × (time_in s ≡ Some (moment_in s).second) × (day_of (date_digits s) ≡ Number (moment_in s).day)
+  moment_parts : is_moment_text s ≡ true → (marks_stand s ≡ true) × (time_in s ≡ Some (moment_in s).second) × (day_of (date_digits s) ≡ Some (moment_in s).day)
   moment_parts g =
       let b = moment_back s g in
       let x = moment_in s in
@@ -166,13 +165,8 @@ module _ (s : List ℕ) where
   pub no_time : time_in s ≡ None → is_moment_text s ≡ false
   no_time q = by_test (is_moment_text s) (λ f. absurd (none-some (moment_in s).second (sym q ∙ (moment_parts f).1))) (λ f. f)
 
-  pub no_day : day_of (date_digits s) ≡ NoDay → is_moment_text s ≡ false
-  no_day q =
-      by_test (is_moment_text s)
-      (λ f. let z : NoDay ≡ Number (moment_in s).day = sym q ∙ (moment_parts f).2 in
-      let o : ◌≡◌ {A = ℕ} 0 1 = cc in
-      absurd (omega arith))
-      (λ f. f)
+  pub no_day : day_of (date_digits s) ≡ None → is_moment_text s ≡ false
+  no_day q = by_test (is_moment_text s) (λ f. absurd (none-some (moment_in s).day (sym q ∙ (moment_parts f).2))) (λ f. f)
 
   module _ (time : ℕ) (et : time_in s ≡ Some time) (e : length s ≡ 20) where
     -- a time is one where each of its parts is
@@ -184,7 +178,7 @@ module _ (s : List ℕ) where
         (λ q. let z : None ≡ Some time = rw q at et in absurd (none-some time z))
 
     -- and a text that has all three is the moment's
-    pub moment_found : (n : ℕ) → marks_stand s ≡ true → day_of (date_digits s) ≡ Number n
+    pub moment_found : (n : ℕ) → marks_stand s ≡ true → day_of (date_digits s) ≡ Some n
         → (is_moment_text s ≡ true) × (◌≡◌ {A = Moment} (record { day = n; second = time }) (moment_in s))
     unfolding in_time
     moment_found n g q =

@@ -1,7 +1,7 @@
 -- What the reader finds is what reading the object comes to: the members before the steps and the steps make the object, and 5 to 8 of the
 -- steps follow.
 use mathlib.Core.Path.{◌≡◌, refl, sym, ap, ◌∙◌}
-use mathlib.Core.Bool.{Bool, true, false, false≢true, ◌&&◌}
+use mathlib.Core.Bool.{Bool, true, false, false≢true, cond, ◌&&◌}
 use mathlib.Core.List.{List, [], ◌∷◌, ◌++◌, append_assoc, map}
 use Prim.Native.Nat.{ℕ, zero, suc, ◌+◌, ◌-◌, ◌/◌, ◌<◌, ◌≤◌}
 use native.Mathlib.Nat.{zero-add}
@@ -15,27 +15,27 @@ use Rattle.lists.proofs.Tests.{by_test, and_left, and_right}
 use Rattle.calendar.specs.Dates.{day_count}
 use Rattle.calendar.specs.Steps.{steps_of}
 use Rattle.calendar.proofs.StepCounts.{steps_small, steps_some}
-use Rattle.refusals.specs.Tests.{input, first_met, decide}
+use Rattle.std.specs.Prelude.{Option, None, Result, Ok, Err}
+use Rattle.std.specs.Option.{ok_or}
+use Rattle.refusals.specs.declared.InputRefusal.{InputRefusal}
+use Rattle.refusals.specs.Tests.{Verdict, pass, verdict, input, first_met, decide}
+use Rattle.refusals.specs.declared.Refusal.{Refusal}
 use Rattle.refusals.specs.declared.Refusal.TheVariants.{Input}
 use Rattle.refusals.specs.declared.InputRefusal.TheVariants.{Object, Labels, Power}
-use Rattle.refusals.specs.declared.Verdict.{Verdict}
-use Rattle.refusals.specs.declared.Verdict.TheVariants.{Pass, No}
 use Rattle.refusals.proofs.Tests.{refused_pass}
 use Rattle.notification.specs.Forms.{places, six_bytes, all_zero}
-use Rattle.notification.specs.Reading.{is_power}
-use Rattle.notification.specs.Reading as notes
+use Rattle.notification.specs.Reading.{is_power, note_of}
 use Rattle.notification.specs.declared.Key.{Key}
 use Rattle.notification.specs.declared.Notification.{Notification}
-use Rattle.notification.specs.declared.Reading.{Reading}
 use Rattle.reader.specs.Folding.{Taken, no_steps, outcome_of, judgement}
 use Rattle.reader.proofs.Series.{verdict_from, powers_from, told, judged_told}
 use Rattle.request.specs.Tokens.{quoted, inside, tokens_from, tokens, fits, is, quoted_by}
 use Rattle.request.specs.Moments.{moment_in, is_day_text}
 use Rattle.request.specs.Objects.{Step, category_name, status_name, further, parted, step_of, series_of, object_of}
 use Rattle.request.specs.Writing.{object_most}
-use Rattle.request.specs.Reading.{step_test, value_tests, step_count, is_object, text_at, steps_in, steps_read, day_read, has_labels, ended, no_step, bad_step, first_bad, step_refusal, powers_of, object_tests, request_in, accepted, refused, read_object}
+use Rattle.request.specs.Reading.{step_test, value_tests, step_count, is_object, text_at, steps_in, steps_read, day_read, has_labels, ended, no_step, bad_step, first_bad, step_refusal, powers_of, object_tests, request_in, read_object}
 use Rattle.request.specs.declared.Moment.{Moment}
-use Rattle.request.specs.declared.RequestRead.{RequestRead}
+use Rattle.request.specs.declared.Request.{Request}
 use Rattle.request.proofs.Fits.{quoted_back}
 use Rattle.request.proofs.MomentTexts.{day_back}
 use Rattle.request_reader.specs.Walking.{starts, Walked, Missing}
@@ -115,7 +115,7 @@ module _ (steps : ℕ) where
   verdict_table ss = verdict_first ss 0 (length ss) (zero-add (length ss))
 
   -- where none is bad, the powers are those of the digits
-  pub powers_said : (k : ℕ) (ss : List (Step (List ℕ))) → fault k ss ≡ Pass → powers_from (said_at steps) first_step steps k ss ≡ powers_of ss
+  pub powers_said : (k : ℕ) (ss : List (Step (List ℕ))) → fault k ss ≡ pass → powers_from (said_at steps) first_step steps k ss ≡ powers_of ss
   unfolding verdict_from powers_from powers_of said_at said_by has_labels
   powers_said k [] e = refl
   powers_said k (s ∷ ss) e =
@@ -125,9 +125,17 @@ module _ (steps : ℕ) where
       (λ b. refused_pass (Input Power (k + first_step)) (rw (a, b) at e)))
       (λ a. refused_pass (Input Labels (k + first_step)) (rw a at e))
 
+-- ---- what isn't found, as the code refuses
+
+pub not_found : {T E : Type 0} (o : Option T) (x y : E) → o ≡ None → Err x ≡ ok_or o y → x ≡ y
+not_found o x y n e = let f : Err x ≡ ok_or None y = rw n at e in cc
+
+pub by_object : (s : List ℕ) (x : InputRefusal) → x ≡ Object → Err (input Object) ≡ read_object s → Err (input x) ≡ read_object s
+by_object s x e f = rw e f
+
 -- ---- WHAT READING COMES TO
 
-pub too_long_lem : (s : List ℕ) → object_most < length s → refused (input Object) ≡ read_object s
+pub too_long_lem : (s : List ℕ) → object_most < length s → Err (input Object) ≡ read_object s
 unfolding read_object object_tests
 too_long_lem s h = rw (lt-leb (length s) object_most h)
 
@@ -141,7 +149,7 @@ module _ (s : List ℕ) (few : length s ≤ object_most) where
   abbrev ss : List (Step (List ℕ))
   ss = steps_read ts
 
-  pub no_object : is_object ts ≡ false → refused (input Object) ≡ read_object s
+  pub no_object : is_object ts ≡ false → Err (input Object) ≡ read_object s
   unfolding read_object object_tests
   no_object e = rw (le-leb (length s) object_most few, e)
 
@@ -149,22 +157,22 @@ module _ (s : List ℕ) (few : length s ≤ object_most) where
     abbrev key : Key
     key = (request_in ts).notification.key
 
-    abbrev concluded : Reading → RequestRead
-    concluded x = decide x.verdict (accepted (record { notification = x.notification; origin = text_at 11 ts; moment = moment_in (text_at 23 ts) })) refused
+    abbrev concluded : Result Notification Refusal → Result Request Refusal
+    concluded x = decide (verdict x) (Ok (record { notification = note_of x; origin = text_at 11 ts; moment = moment_in (text_at 23 ts) })) Err
 
     by_verdict : (v : Verdict) → fault steps 0 ss ≡ v → eqb (length ss) steps ≡ true → concluded (told (said_at steps) first_step steps key ss) ≡ read_object s
     unfolding read_object object_tests request_in
-    by_verdict (No r) e n =
+    by_verdict (Err r) e n =
         let t = sym (verdict_table steps ss) ∙ e in
         by_test (ltb (first_bad steps ss) (length ss))
-        (λ q. let z : No (step_refusal steps ss (first_bad steps ss)) ≡ No r = rw q at t in
-        rw (n, e, le-leb (length s) object_most few, good, q) (sym (ap (λ (v : Verdict). decide v (accepted (request_in ts)) refused) z)))
-        (λ q. let z : Pass ≡ No r = rw q at t in refused_pass r (sym z))
-    by_verdict Pass e n =
+        (λ q. let z : Err (step_refusal steps ss (first_bad steps ss)) ≡ Err r = rw q at t in
+        rw (n, e, le-leb (length s) object_most few, good, q) (sym (ap (λ (v : Verdict). decide v (Ok (request_in ts)) Err) z)))
+        (λ q. let z : pass ≡ Err r = rw q at t in refused_pass r (sym z))
+    by_verdict (Ok u) e n =
         let t = sym (verdict_table steps ss) ∙ e in
         let w = powers_said steps 0 ss e in
         by_test (ltb (first_bad steps ss) (length ss))
-        (λ q. let z : No (step_refusal steps ss (first_bad steps ss)) ≡ Pass = rw q at t in refused_pass (step_refusal steps ss (first_bad steps ss)) z)
+        (λ q. let z : Err (step_refusal steps ss (first_bad steps ss)) ≡ pass = rw q at t in refused_pass (step_refusal steps ss (first_bad steps ss)) z)
         (λ q. by_test (all_zero (powers_of ss))
         (λ z. rw (n, e, w, z, le-leb (length s) object_most few, good, q))
         (λ z. rw (n, e, w, z, le-leb (length s) object_most few, good, q)))
@@ -176,19 +184,19 @@ module _ (s : List ℕ) (few : length s ≤ object_most) where
         (λ n. by_verdict (fault steps 0 ss) refl n)
         (λ n. rw (n, le-leb (length s) object_most few, good))
 
-    -- the request is accepted or refused as its notification is
+    -- the request is Ok or refused as its notification is
     by_notification : (v : Verdict) (n : Notification)
-        → decide v (accepted (record { notification = n; origin = text_at 11 ts; moment = moment_in (text_at 23 ts) })) refused
-        ≡ concluded (decide v (notes.accepted n) notes.refused)
-    by_notification Pass n = refl
-    by_notification (No r) n = refl
+        → decide v (Ok (record { notification = n; origin = text_at 11 ts; moment = moment_in (text_at 23 ts) })) Err
+        ≡ concluded (decide v (Ok n) Err)
+    by_notification (Ok u) n = refl
+    by_notification (Err r) n = refl
 
     -- what the reader has found: the key, what is kept of the steps, the origin and the submission
     pub object_read : (k : Key) (x : Taken) (origin : List ℕ) (moment : Moment) → k ≡ key
         → x ≡ tell_all steps (record { tally = no_steps; powers = replicate places 0 }) ss
         → origin ≡ text_at 11 ts → moment ≡ moment_in (text_at 23 ts)
         → decide (outcome_of steps x.tally x.powers)
-        (accepted (record { notification = record { key = k; steps = steps; powers = x.powers }; origin = origin; moment = moment })) refused
+        (Ok (record { notification = record { key = k; steps = steps; powers = x.powers }; origin = origin; moment = moment })) Err
         ≡ read_object s
     unfolding judgement
     object_read k x origin moment ek ex eo em =
@@ -205,21 +213,21 @@ module _ (s : List ℕ) (few : length s ≤ object_most) where
   abbrev all : List (List ℕ)
   all = tokens s
 
-  headless : Missing head_tests s 0 → refused (input Object) ≡ read_object s
+  headless : Missing head_tests s 0 → Err (input Object) ≡ read_object s
   headless m = no_object s few (object_parts all ∙ rw m)
 
-  pub no_parties : Missing party_tests s 0 → refused (input Object) ≡ read_object s
+  pub no_parties : Missing party_tests s 0 → Err (input Object) ≡ read_object s
   no_parties m = headless (missing_first party_tests (term_tests ++ begin_tests) s 0 m)
 
   module _ (p : Parties) (pa : PartiesAt s p) where
-    pub no_terms : Missing term_tests s p.at → refused (input Object) ≡ read_object s
+    pub no_terms : Missing term_tests s p.at → Err (input Object) ≡ read_object s
     no_terms m = headless (missing_on party_tests (term_tests ++ begin_tests) s 0 p.at pa.walked (missing_first term_tests begin_tests s p.at m))
 
     module _ (t : Terms) (te : TermsAt s p.at t) where
       terms_walked : Walked (party_tests ++ term_tests) s 0 t.at
       terms_walked = walked_on party_tests term_tests s 0 p.at pa.walked t.at te.walked
 
-      pub no_begin : Missing begin_tests s t.at → refused (input Object) ≡ read_object s
+      pub no_begin : Missing begin_tests s t.at → Err (input Object) ≡ read_object s
       no_begin m = headless (missing_on (party_tests ++ term_tests) begin_tests s 0 t.at terms_walked m)
 
       module _ (from : ℕ) (be : Walked begin_tests s t.at from) where
@@ -256,12 +264,12 @@ module _ (s : List ℕ) (few : length s ≤ object_most) where
           its_object : is_object all ≡ is_series (tokens (drop from s))
           its_object = object_parts all ∙ rw (head_walked.passes, ← head_walked.leaves)
 
-          pub series_lost : is_series (tokens (drop from s)) ≡ false → refused (input Object) ≡ read_object s
+          pub series_lost : is_series (tokens (drop from s)) ≡ false → Err (input Object) ≡ read_object s
           series_lost g = no_object s few (its_object ∙ g)
 
           pub series_found : (x y : Taken) (v : Verdict) → SeriesAt steps s from x y
               → x ≡ record { tally = no_steps; powers = replicate places 0 } → v ≡ outcome_of steps y.tally y.powers
-              → decide v (accepted (record {
+              → decide v (Ok (record {
                 notification = record {
                   key = record { ceder = p.ceder; acquirer = p.acquirer; category = t.category; day = t.day.day };
                   steps = steps;
@@ -269,7 +277,7 @@ module _ (s : List ℕ) (few : length s ≤ object_most) where
                 };
                 origin = p.origin;
                 moment = t.submitted;
-              })) refused ≡ read_object s
+              })) Err ≡ read_object s
           unfolding steps_read
           series_found x y v se ex ev =
               let n : length all - 33 ≡ length (drop 32 all) - 1 = omega (arith, length-drop 32 all) in
@@ -282,6 +290,6 @@ module _ (s : List ℕ) (few : length s ≤ object_most) where
               (object_read s few (its_object ∙ se.its_form) (record { ceder = p.ceder; acquirer = p.acquirer; category = t.category; day = t.day.day }) y p.origin t.submitted its_key told-all pa.its_origin its_moment)
 
 -- nothing stands past the end, and nothing is no object
-pub past_end : (s : List ℕ) (at : ℕ) → length s ≤ at → refused (input Object) ≡ read_object (drop at s)
+pub past_end : (s : List ℕ) (at : ℕ) → length s ≤ at → Err (input Object) ≡ read_object (drop at s)
 unfolding tokens_from starts
 past_end s at h = rw (drop_of_length-le s h) (no_object [] (omega arith) (object_parts []))

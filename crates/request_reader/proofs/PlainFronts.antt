@@ -1,4 +1,5 @@
 -- A step without blanks, by words of eight bytes: its text is what they say together, and its tokens are those of a step.
+use Rattle.std.specs.Prelude.{Option, Some, None}
 use mathlib.Core.Path.{◌≡◌, refl, sym, ap, ◌∙◌}
 use mathlib.Core.Bool.{Bool, true, false, not, ◌&&◌}
 use mathlib.Core.List.{List, [], ◌∷◌, ◌++◌}
@@ -18,8 +19,6 @@ use Rattle.request.specs.Objects.{from_name, until_name, power_name}
 use Rattle.request.proofs.Unquoted.{label_unquoted}
 use Rattle.request_reader.specs.Walking.{part, is_plain, is_mark}
 use Rattle.request_reader.specs.Steps.{front_of, open_text, LabelEntry, RunAt, FrontAt}
-use Rattle.reader.specs.declared.power.Power.{Power}
-use Rattle.reader.specs.declared.power.Power.TheVariants.{Is, Not}
 use Rattle.request_reader.specs.Series.{between_steps, PlainSays, LaidSays}
 use Rattle.request_reader.proofs.Fronts.{tokens_mark, tokens_quoted}
 use Rattle.request_reader.proofs.LaidFronts.{part_rest, run_length, run_token}
@@ -216,7 +215,7 @@ plain_between from until s at next v e f =
     }
 
 -- what is said of a step without blanks after `}` and a comma is said of the next step
-pub plain_next : (lead from until s : List ℕ) (at : ℕ) (r : Power) → take 2 lead ≡ 125 ∷ 44 ∷ [] → PlainSays lead from until s at r
+pub plain_next : (lead from until s : List ℕ) (at : ℕ) (r : Option (ℕ × ℕ)) → take 2 lead ≡ 125 ∷ 44 ∷ [] → PlainSays lead from until s at r
     → LaidSays from until s at r
-plain_next lead from until s at (Is v n) e p = plain_between from until s at (at + n) v (p.0 ∙ e) p.1
-plain_next lead from until s at Not e p = p
+plain_next lead from until s at (Some (v, n)) e p = plain_between from until s at (at + n) v (p.0 ∙ e) p.1
+plain_next lead from until s at None e p = p

@@ -1,5 +1,8 @@
 -- The reader's walk along the steps: what is kept after a step's power and the tokens from there on say together what the whole series says
 -- from its beginning on.
+use Rattle.std.specs.Prelude.{Result, Ok, Err}
+use Rattle.reader.specs.declared.tally.StepFault.{StepFault}
+use Rattle.reader.specs.declared.tally.StepFault.TheVariants.{NoLabels, NoPower}
 use mathlib.Core.Path.{◌≡◌, refl, sym, ap, ◌∙◌}
 use mathlib.Core.Bool.{Bool, true, false, not, ◌&&◌}
 use mathlib.Core.List.{List, [], ◌∷◌, ◌++◌}
@@ -16,7 +19,6 @@ use Rattle.std.proofs.lemmas.Option.{none-some}
 use Rattle.lists.specs.Searches.{same}
 use Rattle.lists.proofs.Tests.{by_test, true_false, or_right}
 use Rattle.notification.specs.Forms.{is_digit}
-use Rattle.reader.specs.declared.tally.LinePower.{LinePower}
 use Rattle.reader.specs.declared.tally.Tally.{Tally}
 use Rattle.reader.specs.Folding.{Taken, is_over, counted, judged, step_taken, take_all}
 use Rattle.request.specs.Tokens.{is_blank, quote, onto, tokens_from, tokens, fits, is}
@@ -106,14 +108,14 @@ module _ (s : List ℕ) (at : ℕ) where
 
 -- ---- the labels of a step's place in the day
 
-pub told_same : (first steps : ℕ) (x : Taken) (said other : LinePower) → (x.tally.lines < steps → said ≡ other) → step_taken first steps x said ≡ step_taken first steps x other
+pub told_same : (first steps : ℕ) (x : Taken) (said other : Result ℕ StepFault) → (x.tally.lines < steps → said ≡ other) → step_taken first steps x said ≡ step_taken first steps x other
 told_same first steps x said other f =
     by_test (is_over steps x.tally)
     (λ t. rw t)
     (λ t. let h = leb-false steps x.tally.lines (or_right (not (eqb x.tally.fault 0)) (leb steps x.tally.lines) t) in
-    ap (λ (l : LinePower). step_taken first steps x l) (f h))
+    ap (λ (l : Result ℕ StepFault). step_taken first steps x l) (f h))
 
-pub next_told : (steps k k' : ℕ) (from until s : List ℕ) (at next : ℕ) (x y : Taken) (said : LinePower) → k ≡ min x.tally.lines steps → k' ≡ min (k + 1) steps
+pub next_told : (steps k k' : ℕ) (from until s : List ℕ) (at next : ℕ) (x y : Taken) (said : Result ℕ StepFault) → k ≡ min x.tally.lines steps → k' ≡ min (k + 1) steps
     → from ≡ hour_label steps k → until ≡ hour_label steps k' → StepAt from until s at next said → y ≡ step_taken first_step steps x said → NextStep steps s at next x y
 unfolding said_at
 next_told steps k k' from until s at next x y said e e' f u w r =
@@ -270,11 +272,11 @@ module _ (s : List ℕ) (from first : ℕ) (p : Past s from first) where
 
 -- ---- a step more, by what it says
 
-pub tell_over : (first steps : ℕ) (t y : Tally) (ps : List ℕ) (said : LinePower) (over : Bool) → over ≡ is_over steps t → over ≡ true → y ≡ counted t
+pub tell_over : (first steps : ℕ) (t y : Tally) (ps : List ℕ) (said : Result ℕ StepFault) (over : Bool) → over ≡ is_over steps t → over ≡ true → y ≡ counted t
     → ◌≡◌ {A = Taken} (record { tally = y; powers = ps }) (step_taken first steps (record { tally = t; powers = ps }) said)
 tell_over first steps t y ps said over e f g = rw (g, sym e ∙ f)
 
-pub tell_on : (first steps : ℕ) (t y : Tally) (ps qs : List ℕ) (said : LinePower) (over : Bool) → over ≡ is_over steps t → over ≡ false
+pub tell_on : (first steps : ℕ) (t y : Tally) (ps qs : List ℕ) (said : Result ℕ StepFault) (over : Bool) → over ≡ is_over steps t → over ≡ false
     → ◌≡◌ {A = Taken} (record { tally = y; powers = qs }) (judged first (record { tally = t; powers = ps }) said)
     → ◌≡◌ {A = Taken} (record { tally = y; powers = qs }) (step_taken first steps (record { tally = t; powers = ps }) said)
 tell_on first steps t y ps qs said over e f g = g ∙ rw (sym e ∙ f)

@@ -1,4 +1,5 @@
 -- How a step is laid out: the tokens up to its labels and its power, one after another, and the step that is read at those places.
+use Rattle.std.specs.Prelude.{Option, Some, None}
 use mathlib.Core.Path.{◌≡◌, refl, ap, ◌∙◌}
 use mathlib.Core.List.{List, [], ◌∷◌, ◌++◌}
 use mathlib.Core.Bool.{Bool, true, false}
@@ -11,8 +12,6 @@ use Rattle.lists.specs.Searches.{every, same}
 use Rattle.lists.proofs.Tests.{and_true}
 use Rattle.lists.proofs.Searches.{same_true}
 use Rattle.notification.specs.Forms.{is_digit}
-use Rattle.reader.specs.declared.power.Power.{Power}
-use Rattle.reader.specs.declared.power.Power.TheVariants.{Is, Not}
 use Rattle.request.specs.Tokens.{quoted}
 use Rattle.request_reader.specs.declared.layouts.Layout.{Layout}
 use Rattle.request_reader.specs.Walking.{part, Passed}
@@ -31,11 +30,11 @@ named_passed b name s at mark text from p q r =
 -- ---- a step by its own places
 
 -- both labels stand there, and then the digits say what the step does
-pub own_says : (s t : List ℕ) (i : ℕ) (l : Layout) (x : Power) → same (part (l.first + 1) 4 s) (part (i + 4) 4 t) ≡ true
+pub own_says : (s t : List ℕ) (i : ℕ) (l : Layout) (x : Option (ℕ × ℕ)) → same (part (l.first + 1) 4 s) (part (i + 4) 4 t) ≡ true
     → same (part (l.second + 1) 4 s) (part (i + 14) 4 t) ≡ true → RunSays s l.power x → OwnSays t i s l x
-own_says s t i l (Is v n) e f r =
+own_says s t i l (Some (v, n)) e f r =
     (same_true (part (l.first + 1) 4 s) (part (i + 4) 4 t) e, same_true (part (l.second + 1) 4 s) (part (i + 14) 4 t) f, r)
-own_says s t i l Not e f r = r
+own_says s t i l None e f r = r
 
 -- the labels stand within the text
 pub laid_rooms : (s : List ℕ) (at : ℕ) (l : Layout) → LaidOut before_from s at l → (l.first + 7 ≤ length s) × (l.second + 7 ≤ length s)
@@ -46,7 +45,7 @@ laid_rooms s at l o =
     (omega arith, omega arith)
 
 pub own_front : (s t : List ℕ) (at i : ℕ) (l : Layout) (v n : ℕ) → LaidOut before_from s at l → LabelEntry t i → LabelEntry t (i + 10)
-    → OwnSays t i s l (Is v n) → FrontAt [] (part (i + 4) 5 t) (part (i + 14) 5 t) s at (l.power + n) v
+    → OwnSays t i s l (Some (v, n)) → FrontAt [] (part (i + 4) 5 t) (part (i + 14) 5 t) s at (l.power + n) v
 own_front s t at i l v n o from until says =
     let (f1, f2, r) = says in
     let (m1, m2) = laid_rooms s at l o in

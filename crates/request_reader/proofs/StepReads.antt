@@ -1,4 +1,8 @@
 -- A step, member by member: its labels are the ones wanted or others, and its digits are a power or not.
+use Rattle.std.specs.Prelude.{Option, Some, None}
+use Rattle.std.specs.Prelude.{Result, Ok, Err}
+use Rattle.reader.specs.declared.tally.StepFault.{StepFault}
+use Rattle.reader.specs.declared.tally.StepFault.TheVariants.{NoLabels, NoPower}
 use mathlib.Core.Path.{◌≡◌, refl, sym, ap, ◌∙◌}
 use mathlib.Core.Bool.{Bool, true, false, false≢true, cond, not, ◌&&◌}
 use mathlib.Core.List.{List, [], ◌∷◌, ◌++◌}
@@ -8,15 +12,12 @@ use lib.Dec.{ltb, eqb}
 use lib.ListN.{length, get_or, take, drop, length-take, length-drop, length-append, get_or-eq_default, get_or-append}
 use lib.Seq.{get_or-drop, get_or-take, get_or-append_seam, length-take-le}
 use borrow.Author.Tests.{ltb-true, ltb-false, eqb-true}
+use Rattle.std.proofs.lemmas.Option.{none-some}
 use Rattle.lists.specs.Searches.{every, same}
 use Rattle.lists.proofs.Tests.{by_test, true_false, and_left, and_right, and_true}
 use Rattle.lists.proofs.Searches.{same_refl, same_true, every_at}
 use Rattle.notification.specs.Forms.{is_digit, digits}
 use Rattle.notification.specs.Reading.{power_value, is_power}
-use Rattle.reader.specs.declared.power.Power.{Power}
-use Rattle.reader.specs.declared.power.Power.TheVariants.{Is, Not}
-use Rattle.reader.specs.declared.tally.LinePower.{LinePower}
-use Rattle.reader.specs.declared.tally.LinePower.TheVariants.{Gives, NoLabels, NoPower}
 use Rattle.reader.proofs.Figures.{power_in, power_sound}
 use Rattle.reader.proofs.Judging.{power_whole, power_only}
 use Rattle.request.specs.Tokens.{quoted, inside, tokens, is, quoted_by}
@@ -94,7 +95,7 @@ module _ (name s : List ℕ) (at from : ℕ) (o : Opened (is name ∷ is (58 ∷
     pub power_lost : end ≡ from → Missing (power_tests name) s at
     power_lost e = value_missing is_run (digits_lost s from end o.past.no_blank r e)
 
-    pub power_read : (power : Power) → (end ≡ from → ⊥) → power ≡ power_of (take (end - from) (drop from s)) → PowerAt name s at end power
+    pub power_read : (power : Option (ℕ × ℕ)) → (end ≡ from → ⊥) → power ≡ power_of (take (end - from) (drop from s)) → PowerAt name s at end power
     power_read power f e =
         record {
           walked = value_walked is_run end (digits_found s from end o.past.no_blank r f);
@@ -133,7 +134,7 @@ module _ (s : List ℕ) (from end i : ℕ) (a : from ≤ end) (b : end ≤ lengt
 -- ---- what the digits of a token say
 
 -- a power is found in a run of digits only where it is the whole run
-power_last : (u : List ℕ) (v n : ℕ) → every is_digit u ≡ true → power_in (u ++ 59 ∷ []) ≡ Is v n → n ≡ length (u ++ 59 ∷ [])
+power_last : (u : List ℕ) (v n : ℕ) → every is_digit u ≡ true → power_in (u ++ 59 ∷ []) ≡ Some (v, n) → n ≡ length (u ++ 59 ∷ [])
 power_last u v n e p =
     let s = u ++ 59 ∷ [] in
     let q = power_sound s v n p in
@@ -152,22 +153,19 @@ power_last u v n e p =
     let g = q.1 in
     omega arith)
 
-not_is : (v n : ℕ) → Not ≡ Is v n → ⊥
-not_is v n q = let z : ◌≡◌ {A = ℕ} 0 1 = cc in omega arith
-
 pub said_run : (right : Bool) (u : List ℕ) → every is_digit u ≡ true
-    → said_of right (power_of u) ≡ cond (not right) NoLabels (cond (not (is_power (u ++ 59 ∷ []))) NoPower (Gives (power_value (u ++ 59 ∷ []))))
+    → said_of right (power_of u) ≡ cond (not right) (Err NoLabels) (cond (not (is_power (u ++ 59 ∷ []))) (Err NoPower) (Ok (power_value (u ++ 59 ∷ []))))
 unfolding power_of
 said_run false u e = refl
 said_run true u e = by_power (power_of u) refl
   where
-    by_power : (p : Power) → power_of u ≡ p → said_of true (power_of u) ≡ cond (not (is_power (u ++ 59 ∷ []))) NoPower (Gives (power_value (u ++ 59 ∷ [])))
-    by_power (Is v n) q =
+    by_power : (p : Option (ℕ × ℕ)) → power_of u ≡ p → said_of true (power_of u) ≡ cond (not (is_power (u ++ 59 ∷ []))) (Err NoPower) (Ok (power_value (u ++ 59 ∷ [])))
+    by_power (Some (v, n)) q =
         let w = power_whole (u ++ 59 ∷ []) v n q (power_last u v n e q) in
         rw (q, w.0, w.1)
-    by_power Not q =
+    by_power None q =
         by_test (is_power (u ++ 59 ∷ []))
-        (λ t. absurd (not_is (power_value (u ++ 59 ∷ [])) (length (u ++ 59 ∷ [])) (sym q ∙ power_only (u ++ 59 ∷ []) t)))
+        (λ t. absurd (none-some (power_value (u ++ 59 ∷ []), length (u ++ 59 ∷ [])) (sym q ∙ power_only (u ++ 59 ∷ []) t)))
         (λ t. rw (q, t))
 
 -- the third of three tokens that pass passes its test
@@ -236,7 +234,7 @@ module _ (s : List ℕ) (at : ℕ) where
             pub no_power : Missing (power_tests (quoted power_name)) s last → Missing front_tests s at
             no_power m = missing_on tests5 (power_tests (quoted power_name)) s at last w5 m
 
-            module _ (third : ℕ) (power : Power) (p1 : PowerAt (quoted power_name) s last third power) where
+            module _ (third : ℕ) (power : Option (ℕ × ℕ)) (p1 : PowerAt (quoted power_name) s last third power) where
               abbrev ts : List (List ℕ)
               ts = tokens (drop at s)
 
@@ -260,7 +258,7 @@ module _ (s : List ℕ) (at : ℕ) where
                   let e : power ≡ power_of (get_or ts 11 []) = p1.its_power ∙ ap power_of power_token in
                   record {
                     walked = walked_on tests5 (power_tests (quoted power_name)) s at last w5 third p1.walked;
-                    its_said = ap (λ (p : Power). said_of (right₁ && right₂) p) e ∙ (said_run (right₁ && right₂) (get_or ts 11 []) its_run ∙ rw (its_from, its_until));
+                    its_said = ap (λ (p : Option (ℕ × ℕ)). said_of (right₁ && right₂) p) e ∙ (said_run (right₁ && right₂) (get_or ts 11 []) its_run ∙ rw (its_from, its_until));
                   }
 
 -- ---- a label of five bytes
@@ -279,11 +277,11 @@ five_at s at e =
 
 -- ---- what is said, case by case
 
-pub said_wrong : (right : Bool) (power : Power) → right ≡ false → NoLabels ≡ said_of right power
+pub said_wrong : (right : Bool) (power : Option (ℕ × ℕ)) → right ≡ false → (Err NoLabels) ≡ said_of right power
 said_wrong right power e = rw e
 
-pub said_power : (right : Bool) (power : Power) (v n : ℕ) → right ≡ true → power ≡ Is v n → Gives v ≡ said_of right power
+pub said_power : (right : Bool) (power : Option (ℕ × ℕ)) (v n : ℕ) → right ≡ true → power ≡ Some (v, n) → Ok v ≡ said_of right power
 said_power right power v n e f = rw (e, f)
 
-pub said_none : (right : Bool) (power : Power) → right ≡ true → power ≡ Not → NoPower ≡ said_of right power
+pub said_none : (right : Bool) (power : Option (ℕ × ℕ)) → right ≡ true → power ≡ None → (Err NoPower) ≡ said_of right power
 said_none right power e f = rw (e, f)

@@ -1,4 +1,8 @@
 -- The reader's walk from one step's power to the next: what is kept there and the tokens after it say what was said before it.
+use Rattle.std.specs.Prelude.{Option, Some, None}
+use Rattle.std.specs.Prelude.{Result, Ok, Err}
+use Rattle.reader.specs.declared.tally.StepFault.{StepFault}
+use Rattle.reader.specs.declared.tally.StepFault.TheVariants.{NoLabels, NoPower}
 use mathlib.Core.Path.{◌≡◌, refl, sym, ap, ◌∙◌}
 use mathlib.Core.Bool.{true}
 use mathlib.Core.List.{List, [], ◌∷◌, ◌++◌}
@@ -11,9 +15,6 @@ use Rattle.lists.specs.Searches.{every, same}
 use Rattle.lists.proofs.Tests.{and_right}
 use Rattle.lists.proofs.Searches.{same_refl}
 use Rattle.notification.specs.Forms.{is_digit, places}
-use Rattle.reader.specs.declared.power.Power.TheVariants.{Is}
-use Rattle.reader.specs.declared.tally.LinePower.{LinePower}
-use Rattle.reader.specs.declared.tally.LinePower.TheVariants.{Gives}
 use Rattle.reader.specs.declared.tally.Tally.{Tally}
 use Rattle.reader.specs.Folding.{Taken, step_taken, take_all}
 use Rattle.request.specs.Tokens.{quoted, tokens}
@@ -90,8 +91,8 @@ module _ (from until digits : List ℕ) where
   unfolding starts same
   front_starts ts a b r = rw (quoted_made (every is_label_byte) from a, quoted_made (every is_label_byte) until b, r)
 
-  front_said : (v n : ℕ) → is_run digits ≡ true → power_of digits ≡ Is v n
-      → Gives v ≡ said_by from until (record { from = quoted from; until = quoted until; power = digits })
+  front_said : (v n : ℕ) → is_run digits ≡ true → power_of digits ≡ Some (v, n)
+      → Ok v ≡ said_by from until (record { from = quoted from; until = quoted until; power = digits })
   unfolding said_by
   front_said v n r p =
       let d = and_right (ltb 0 (length digits)) (every is_digit digits) r in
@@ -101,8 +102,8 @@ module _ (from until digits : List ℕ) where
 abbrev pub one_told : Tally → List ℕ → ℕ → Taken
 one_told t ps v = record { tally = record { lines = t.lines + 1; fault = 0; place = t.place }; powers = set ps t.lines v }
 
-power_told : (steps v : ℕ) (t : Tally) (ps : List ℕ) (said : LinePower)
-    → t.fault ≡ 0 → t.lines < steps → steps ≤ places → Gives v ≡ said
+power_told : (steps v : ℕ) (t : Tally) (ps : List ℕ) (said : Result ℕ StepFault)
+    → t.fault ≡ 0 → t.lines < steps → steps ≤ places → Ok v ≡ said
     → one_told t ps v ≡ step_taken first_step steps (record { tally = t; powers = ps }) said
 power_told steps v t ps said p h g e =
     let m : min (t.lines + 1) 51 ≡ t.lines + 1 = omega arith in

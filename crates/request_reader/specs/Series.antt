@@ -1,7 +1,6 @@
 -- The steps of an object, one after another, and what ends them.
+use Rattle.std.specs.Prelude.{Option, Some, None}
 use Rattle.std.specs.Prelude.{◌≡◌, Bool, true, List, [], ◌∷◌, ◌++◌, map, ℕ, ◌+◌, ◌-◌, ◌/◌, ◌≤◌, length, take, drop, replicate}
-use Rattle.reader.specs.declared.power.Power.{Power}
-use Rattle.reader.specs.declared.power.Power.TheVariants.{Is, Not}
 use Rattle.reader.specs.Folding.{Taken, step_taken, take_all}
 use Rattle.request.specs.Tokens.{tokens, fits, is}
 use Rattle.request.specs.Objects.{Step, further, parted, step_of}
@@ -79,17 +78,17 @@ pub record SeriesAt (steps : ℕ) (s : List ℕ) (at : ℕ) (x y : Taken) : Type
 -- A STEP AT ONCE
 
 -- what is said of a place where a step without blanks is looked for, after two bytes of its lead
-abbrev pub PlainSays : List ℕ → List ℕ → List ℕ → List ℕ → ℕ → Power → Type 0
-PlainSays lead from until s at (Is v n) = (part at 2 s ≡ take 2 lead) × FrontAt [] from until s (at + 2) (at + n) v
-PlainSays lead from until s at Not = Unit {0}
+abbrev pub PlainSays : List ℕ → List ℕ → List ℕ → List ℕ → ℕ → Option (ℕ × ℕ) → Type 0
+PlainSays lead from until s at (Some (v, n)) = (part at 2 s ≡ take 2 lead) × FrontAt [] from until s (at + 2) (at + n) v
+PlainSays lead from until s at None = Unit {0}
 
 -- and where one laid out as another is, after a step's power
-abbrev pub LaidSays : List ℕ → List ℕ → List ℕ → ℕ → Power → Type 0
-LaidSays from until s at (Is v n) = FrontAt between_steps from until s at (at + n) v
-LaidSays from until s at Not = Unit {0}
+abbrev pub LaidSays : List ℕ → List ℕ → List ℕ → ℕ → Option (ℕ × ℕ) → Type 0
+LaidSays from until s at (Some (v, n)) = FrontAt between_steps from until s at (at + n) v
+LaidSays from until s at None = Unit {0}
 
 -- what a front has to say of each place and each two labels of a list that it is asked of
-abbrev pub Fronts : (ℕ → ℕ → Type 0) → (ℕ → ℕ → Power → Type 0) → List ℕ → List ℕ → Type 0
+abbrev pub Fronts : (ℕ → ℕ → Type 0) → (ℕ → ℕ → Option (ℕ × ℕ) → Type 0) → List ℕ → List ℕ → Type 0
 Fronts pre post t s =
     (at i : ℕ) → at ≤ length s → LabelEntry t i → LabelEntry t (i + 10)
-    → pre at i × ((r : Power) → post at i r → LaidSays (part (i + 4) 5 t) (part (i + 14) 5 t) s at r)
+    → pre at i × ((r : Option (ℕ × ℕ)) → post at i r → LaidSays (part (i + 4) 5 t) (part (i + 14) 5 t) s at r)

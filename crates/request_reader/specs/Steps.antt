@@ -1,12 +1,12 @@
 -- A step of an object as it is read: its two labels, held against those of its place in the day, and its power.
+use Rattle.std.specs.Prelude.{Option, Some, None}
+use Rattle.std.specs.Prelude.{Result, Ok, Err}
+use Rattle.reader.specs.declared.tally.StepFault.{StepFault}
+use Rattle.reader.specs.declared.tally.StepFault.TheVariants.{NoLabels, NoPower}
 use Rattle.std.specs.Prelude.{◌≡◌, Bool, true, false, cond, not, ◌&&◌, List, [], ◌∷◌, ◌++◌, ℕ, suc, ◌+◌, ◌≤◌, length, get_or, drop}
 use Rattle.lists.specs.Searches.{every, same}
 use Rattle.notification.specs.Reading.{power_value, is_power}
-use Rattle.reader.specs.declared.power.Power.{Power}
-use Rattle.reader.specs.declared.power.Power.TheVariants.{Is, Not}
 use Rattle.reader.specs.Walking.{leading_power}
-use Rattle.reader.specs.declared.tally.LinePower.{LinePower}
-use Rattle.reader.specs.declared.tally.LinePower.TheVariants.{Gives, NoLabels, NoPower}
 use Rattle.request.specs.Tokens.{quoted, tokens, is, quoted_by}
 use Rattle.request.specs.Objects.{Step, from_name, until_name, power_name}
 use Rattle.request.specs.Writing.{hour_label}
@@ -25,7 +25,7 @@ pub record LabelAt (name wanted s : List ℕ) (at next : ℕ) (right : Bool) : T
   pub its_label : right ≡ same (get_or (tokens (drop at s)) 2 []) (quoted wanted)
 
 -- the power in the digits of a token, as they stand in a file, where `;` ends them
-unfoldable pub power_of : List ℕ → Power
+unfoldable pub power_of : List ℕ → Option (ℕ × ℕ)
 power_of t =
     let s = t ++ 59 ∷ [] in
     leading_power (get_or s 0 0) (get_or s 1 0) (get_or s 2 0) (get_or s 3 0) (get_or s 4 0)
@@ -34,7 +34,7 @@ abbrev pub power_tests : List ℕ → List (List ℕ → Bool)
 power_tests name = is name ∷ is (58 ∷ []) ∷ is_run ∷ []
 
 -- a power's member stands at a place, and what its digits give
-pub record PowerAt (name s : List ℕ) (at next : ℕ) (power : Power) : Type 0 where
+pub record PowerAt (name s : List ℕ) (at next : ℕ) (power : Option (ℕ × ℕ)) : Type 0 where
   pub walked : Walked (power_tests name) s at next
   pub its_power : power ≡ power_of (get_or (tokens (drop at s)) 2 [])
 
@@ -49,23 +49,23 @@ abbrev pub step_in : List (List ℕ) → Step (List ℕ)
 step_in ts = record { from = get_or ts 3 []; until = get_or ts 7 []; power = get_or ts 11 [] }
 
 -- what is said of a step whose labels are right or not, by its power
-abbrev pub said_of : Bool → Power → LinePower
-said_of false power = NoLabels
-said_of true (Is v n) = Gives v
-said_of true Not = NoPower
+abbrev pub said_of : Bool → Option (ℕ × ℕ) → Result ℕ StepFault
+said_of false power = (Err NoLabels)
+said_of true (Some (v, n)) = Ok v
+said_of true None = (Err NoPower)
 
 -- what a step says, by the labels that it should have
-unfoldable pub said_by : List ℕ → List ℕ → Step (List ℕ) → LinePower
+unfoldable pub said_by : List ℕ → List ℕ → Step (List ℕ) → Result ℕ StepFault
 said_by from until s =
-    cond (not (same s.from (quoted from) && same s.until (quoted until))) NoLabels
-    (cond (not (is_power (ended s))) NoPower (Gives (power_value (ended s))))
+    cond (not (same s.from (quoted from) && same s.until (quoted until))) (Err NoLabels)
+    (cond (not (is_power (ended s))) (Err NoPower) (Ok (power_value (ended s))))
 
 -- what it says as step k of a day
-unfoldable pub said_at : ℕ → ℕ → Step (List ℕ) → LinePower
+unfoldable pub said_at : ℕ → ℕ → Step (List ℕ) → Result ℕ StepFault
 said_at steps k s = said_by (hour_label steps k) (hour_label steps (suc k)) s
 
 -- a step stands at a place, and the next place is after its power
-pub record StepAt (from until s : List ℕ) (at next : ℕ) (said : LinePower) : Type 0 where
+pub record StepAt (from until s : List ℕ) (at next : ℕ) (said : Result ℕ StepFault) : Type 0 where
   pub walked : Walked front_tests s at next
   pub its_said : said ≡ said_by from until (step_in (tokens (drop at s)))
 
@@ -108,16 +108,16 @@ pub record RunAt (s : List ℕ) (at v n : ℕ) : Type 0 where
   pub within : at + n ≤ length s
   pub all : every is_digit (part at n s) ≡ true
   pub stop : is_digit (get_or s (at + n) 0) ≡ false
-  pub its_power : power_of (part at n s) ≡ Is v (n + 1)
+  pub its_power : power_of (part at n s) ≡ Some (v, n + 1)
 
-abbrev pub RunSays : List ℕ → ℕ → Power → Type 0
-RunSays s at (Is v n) = RunAt s at v n
-RunSays s at Not = Unit {0}
+abbrev pub RunSays : List ℕ → ℕ → Option (ℕ × ℕ) → Type 0
+RunSays s at (Some (v, n)) = RunAt s at v n
+RunSays s at None = Unit {0}
 
 -- what is said of a step that is laid out so: the digits of its power, where two labels of a list stand in it
-abbrev pub OwnSays : List ℕ → ℕ → List ℕ → Layout → Power → Type 0
-OwnSays t i s l (Is v n) = (part (l.first + 1) 4 s ≡ part (i + 4) 4 t) × (part (l.second + 1) 4 s ≡ part (i + 14) 4 t) × RunAt s l.power v n
-OwnSays t i s l Not = Unit {0}
+abbrev pub OwnSays : List ℕ → ℕ → List ℕ → Layout → Option (ℕ × ℕ) → Type 0
+OwnSays t i s l (Some (v, n)) = (part (l.first + 1) 4 s ≡ part (i + 4) 4 t) × (part (l.second + 1) 4 s ≡ part (i + 14) 4 t) × RunAt s l.power v n
+OwnSays t i s l None = Unit {0}
 
 -- A STEP AT ONCE
 
@@ -127,7 +127,7 @@ pub record FrontAt (lead : List (List ℕ)) (from until s : List ℕ) (at next v
   pub within : next ≤ length s
   pub its_tokens : tokens (drop at s) ≡ lead ++ (front_of from until digits ++ tokens (drop next s))
   pub run : is_run digits ≡ true
-  pub its_power : power_of digits ≡ Is v (length digits + 1)
+  pub its_power : power_of digits ≡ Some (v, length digits + 1)
 
 -- `{"Debu`
 abbrev pub open_text : List ℕ

@@ -4,7 +4,8 @@ ghost use Rattle.std.specs.Prelude.{◌≡◌, drop};
 ghost use Rattle.request.specs.Reading.{read_object};
 
 use crate::reading::read_from;
-use request::RequestRead;
+use refusals::Refusal;
+use request::Request;
 
 // The body of a request, and a place in it.
 #[derive(Clone, Copy)]
@@ -21,7 +22,7 @@ pub fn start<'a>(body: &'a [u8]) -> Cursor<'a>
 }
 
 // Reads the object that stands from the cursor's place to the end of the body.
-pub fn read<'a>(c: Cursor<'a>) -> RequestRead
+pub fn read<'a>(c: Cursor<'a>) -> Result<Request, Refusal>
     ensures { result ≡ read_object (drop c.entry.at c.entry.body.now) }
 {
     read_from(c.body, c.at)

@@ -8,7 +8,7 @@ use crate::members::{category_length, category_member, code_member, moment_membe
 use crate::moments::moment_of;
 use crate::tokens::{after_mark, after_text, stands};
 use crate::words::{eight_at, same_text};
-use notification::forms::{is_category, is_code, six, sixteen};
+use notification::forms::{in_bytes, is_category, is_code};
 use request::Moment;
 
 // The last second of a day.
@@ -73,9 +73,9 @@ fn plain_parties(s: &[u8]) -> Option<Parties>
         return None;
     }
     Some(Parties {
-        ceder: sixteen(ceder),
-        acquirer: sixteen(acquirer),
-        origin: sixteen(origin),
+        ceder: in_bytes(ceder),
+        acquirer: in_bytes(acquirer),
+        origin: in_bytes(origin),
         at: 128,
     })
 }
@@ -154,7 +154,7 @@ fn plain_terms(s: &[u8], at: usize) -> Option<Terms>
     if !is_category(category) {
         return None;
     }
-    plain_dates(s, from + n, six(category))
+    plain_dates(s, from + n, in_bytes(category))
 }
 
 // The members of the category and of the two dates, whatever blanks stand between the tokens.

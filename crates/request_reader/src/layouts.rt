@@ -4,7 +4,6 @@ ghost use Rattle.request_reader.specs.Steps.{FiveAt, LaidOut, OwnSays, before_fr
 
 use crate::tokens::{after_mark, after_text, value_at};
 use crate::words::{four_at, run_power};
-use reader::power::Power;
 
 // The places of a step's labels and of its power: the labels have five bytes of which the last is 0, and four bytes
 // stand from the power on.
@@ -58,16 +57,16 @@ pub(crate) fn layout_at(s: &[u8], at: usize) -> Option<Layout>
 }
 
 // The power of a step that is laid out so, with two labels of a list.
-pub(crate) fn own_front(s: &[u8], l: Layout, t: &[u8], i: usize) -> Power
+pub(crate) fn own_front(s: &[u8], l: Layout, t: &[u8], i: usize) -> Option<(u16, usize)>
     requires { (l.first + 5 ≤ length s.now) × (l.second + 5 ≤ length s.now) × (l.power + 4 ≤ length s.now)
         × (i + 18 ≤ length t.now) }
     ensures { OwnSays t.now i s.now l result }
 {
     if !four_at(s, l.first + 1, t, i + 4) {
-        return Power::Not;
+        return None;
     }
     if !four_at(s, l.second + 1, t, i + 14) {
-        return Power::Not;
+        return None;
     }
     run_power(s, l.power)
 }

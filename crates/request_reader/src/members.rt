@@ -7,19 +7,12 @@ ghost use Rattle.request_reader.specs.Heads.{is_timely};
 ghost use Rattle.request_reader.specs.Walking.{Missing, Valued, framed, value_tests};
 
 use crate::moments::moment_of;
-use crate::tokens::{after_mark, is_framed, value_at};
-use notification::forms::{is_category, is_code, six, sixteen};
+use crate::tokens::{Found, after_mark, is_framed, value_at};
+use notification::forms::{in_bytes, is_category, is_code};
 use request::Moment;
 
-// The value of a member, and the place after the member.
-#[derive(Clone, Copy)]
-pub struct Member<T> {
-    pub value: T,
-    pub next: usize,
-}
-
 // The member of a code, from after its name on.
-pub(crate) fn code_member(s: &[u8], at: usize) -> Option<Member<[u8; 16]>>
+pub(crate) fn code_member(s: &[u8], at: usize) -> Option<Found<[u8; 16]>>
     requires { at ≤ length s.now }
     ensures { MatchOption result (Missing (value_tests is_code) s.now at)
         (λ m. Valued is_code (λ t. t) s.now at m.next m.value) }
@@ -32,9 +25,9 @@ pub(crate) fn code_member(s: &[u8], at: usize) -> Option<Member<[u8; 16]>>
     if !is_code(code) {
         return None;
     }
-    let value = sixteen(code);
+    let value = in_bytes::<16>(code);
     let next = after_mark(s, from + 18, b',')?;
-    Some(Member { value, next })
+    Some(Found { value, next })
 }
 
 // How many bytes a category at a place has, by where the quote after it stands.
@@ -46,7 +39,7 @@ pub(crate) fn category_length(s: &[u8], from: usize) -> usize
 }
 
 // The member of the category, from after its name on.
-pub(crate) fn category_member(s: &[u8], at: usize) -> Option<Member<[u8; 6]>>
+pub(crate) fn category_member(s: &[u8], at: usize) -> Option<Found<[u8; 6]>>
     requires { at ≤ length s.now }
     ensures { MatchOption result (Missing (value_tests is_category) s.now at)
         (λ m. Valued is_category six_bytes s.now at m.next m.value) }
@@ -61,13 +54,13 @@ pub(crate) fn category_member(s: &[u8], at: usize) -> Option<Member<[u8; 6]>>
     if !is_category(category) {
         return None;
     }
-    let value = six(category);
+    let value = in_bytes::<6>(category);
     let next = after_mark(s, end + 1, b',')?;
-    Some(Member { value, next })
+    Some(Found { value, next })
 }
 
 // The member of a date, from after its name on, whose time is at most a second of the day.
-pub(crate) fn moment_member(s: &[u8], at: usize, latest: u32) -> Option<Member<Moment>>
+pub(crate) fn moment_member(s: &[u8], at: usize, latest: u32) -> Option<Found<Moment>>
     requires { at ≤ length s.now }
     ensures { MatchOption result (Missing (value_tests (is_timely latest)) s.now at)
         (λ m. Valued (is_timely latest) moment_in s.now at m.next m.value) }
@@ -81,5 +74,5 @@ pub(crate) fn moment_member(s: &[u8], at: usize, latest: u32) -> Option<Member<M
         return None;
     }
     let next = after_mark(s, from + 22, b',')?;
-    Some(Member { value, next })
+    Some(Found { value, next })
 }

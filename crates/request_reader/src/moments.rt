@@ -2,11 +2,9 @@
 // 23:59:59".
 ghost use Rattle.std.specs.Prelude.{true, false, ◌≡◌, length, MatchOption};
 ghost use Rattle.calendar.specs.Texts.{day_of};
-ghost use Rattle.calendar.specs.declared.texts.Day.TheVariants.{Number, NoDay};
 ghost use Rattle.request.specs.Moments.{is_moment_text, moment_in};
 ghost use Rattle.request_reader.specs.Walking.{marks_stand, date_digits, time_in};
 
-use calendar::Day;
 use calendar::texts::{day_at, pair};
 use request::Moment;
 
@@ -26,18 +24,14 @@ fn marks_stand(s: &[u8]) -> bool
 // The day of the eight digits of the date.
 fn day_in(s: &[u8]) -> Option<u32>
     requires { length s.now ≡ 20 }
-    ensures { MatchOption result (day_of (date_digits s.now) ≡ NoDay) (λ n. day_of (date_digits s.now) ≡ Number n) }
+    ensures { result ≡ day_of (date_digits s.now) }
 {
-    let day = day_at(
+    day_at(
         pair(s[0], s[1]),
         pair(s[2], s[3]),
         pair(s[5], s[6]),
         pair(s[8], s[9]),
-    );
-    match day {
-        Day::Number(n) => Some(n),
-        Day::NoDay => None,
-    }
+    )
 }
 
 // The second of the time.

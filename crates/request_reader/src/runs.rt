@@ -8,25 +8,24 @@ ghost use Rattle.request_reader.specs.Series.{PlainSays, LaidSays};
 ghost use Rattle.request_reader.specs.Series.{between_steps, Fronts, Onward, NextStep};
 
 use crate::layouts::{Layout, layout_at, own_front};
-use crate::series::{StepTold, Stepped};
+use crate::series::StepTold;
 use crate::words::{eight_at, four_at, run_power, same_at, same_near};
 use reader::marks::{half_hours, run_end};
-use reader::power::Power;
-use reader::tally::{Tally, is_over};
+use reader::tally::{Run, Tally, is_over};
 
 // The labels of a day of fewer steps, which there is none of, don't go on to its midnight.
 const FEWEST_STEPS: u32 = 4;
 
 // A step without blanks, by eight bytes of which the last six begin it and by two labels of a list: its power, and how
 // many bytes these are.
-fn plain_front(s: &[u8], at: usize, lead: &[u8], t: &[u8], i: usize) -> Power
+fn plain_front(s: &[u8], at: usize, lead: &[u8], t: &[u8], i: usize) -> Option<(u16, usize)>
     requires { (at ≤ length s.now) × (length lead.now ≡ 8) × (drop 2 lead.now ≡ open_text)
         × LabelEntry t.now i × LabelEntry t.now (i + 10) }
     ensures { PlainSays lead.now (part (i + 4) 5 t.now) (part (i + 14) 5 t.now)
         s.now at result }
 {
     if s.len() - at < 49 {
-        return Power::Not;
+        return None;
     }
     if !(eight_at(s, at, lead, 0)
         & eight_at(s, at + 8, t, i)
@@ -35,18 +34,22 @@ fn plain_front(s: &[u8], at: usize, lead: &[u8], t: &[u8], i: usize) -> Power
         & eight_at(s, at + 32, b",\"Puissa", 0)
         & eight_at(s, at + 37, b"ssance\":", 0))
     {
-        return Power::Not;
+        return None;
     }
-    let read = run_power(s, at + 45);
-    match read {
-        Power::Is(v, n) => Power::Is(v, n + 45),
-        Power::Not => Power::Not,
-    }
+    let (v, n) = run_power(s, at + 45)?;
+    Some((v, n + 45))
 }
 
 // A step that is laid out as another, which begins after a power, by two labels of a list: its power, and how many
 // bytes these are.
-fn laid_front(s: &[u8], at: usize, lead: usize, l: Layout, t: &[u8], i: usize) -> Power
+fn laid_front(
+    s: &[u8],
+    at: usize,
+    lead: usize,
+    l: Layout,
+    t: &[u8],
+    i: usize,
+) -> Option<(u16, usize)>
     requires { (at ≤ length s.now) × LaidOut (between_steps ++ before_from) s.now lead l × Wide lead l
         × LabelEntry t.now i × LabelEntry t.now (i + 10) }
     ensures { LaidSays (part (i + 4) 5 t.now) (part (i + 14) 5 t.now)
@@ -56,35 +59,32 @@ fn laid_front(s: &[u8], at: usize, lead: usize, l: Layout, t: &[u8], i: usize) -
     let b = l.second - l.first;
     let c = l.power - l.second - 1;
     if s.len() - at < a + b + c + 4 {
-        return Power::Not;
+        return None;
     }
     let first = at + a;
     let second = first + b;
     let power = second + c;
     if !same_at(s, at, lead, a) {
-        return Power::Not;
+        return None;
     }
     if !four_at(s, first, t, i + 4) {
-        return Power::Not;
+        return None;
     }
     if !same_near(s, first + 4, l.first + 5, b - 4) {
-        return Power::Not;
+        return None;
     }
     if !four_at(s, second, t, i + 14) {
-        return Power::Not;
+        return None;
     }
     if !same_near(s, second + 4, l.second + 5, c - 4) {
-        return Power::Not;
+        return None;
     }
-    let read = run_power(s, power);
-    match read {
-        Power::Is(v, n) => Power::Is(v, a + b + c + n),
-        Power::Not => Power::Not,
-    }
+    let (v, n) = run_power(s, power)?;
+    Some((v, a + b + c + n))
 }
 
 // The next step after a step's power, without blanks.
-fn plain_next(s: &[u8], at: usize, t: &[u8], i: usize) -> Power
+fn plain_next(s: &[u8], at: usize, t: &[u8], i: usize) -> Option<(u16, usize)>
     requires { (at ≤ length s.now) × LabelEntry t.now i × LabelEntry t.now (i + 10) }
     ensures { LaidSays (part (i + 4) 5 t.now) (part (i + 14) 5 t.now)
         s.now at result }
@@ -93,7 +93,7 @@ fn plain_next(s: &[u8], at: usize, t: &[u8], i: usize) -> Power
 }
 
 // The steps after a step's power, as long as a front finds the next one by two labels of a list.
-fn run<F: Fn(usize, usize) -> Power>(
+fn run<F: Fn(usize, usize) -> Option<(u16, usize)>>(
     s: &[u8],
     from: usize,
     t: Tally,
@@ -101,7 +101,7 @@ fn run<F: Fn(usize, usize) -> Power>(
     labels: &[u8],
     powers: &mut [u16; 50],
     front: F,
-) -> Stepped
+) -> Run<Tally>
     requires known { (from ≤ length s.now) × (steps ≤ places) × (labels.now ≡ label_list) }
     requires fronts { Fronts (λ at i. F.pre front at i) (λ at i r. F.post front at i r) labels.now s.now }
     ensures onward { Onward steps s.now from (record { tally = t; powers = powers.old })
@@ -109,27 +109,29 @@ fn run<F: Fn(usize, usize) -> Power>(
     ensures at_in_bounds { result.at ≤ length s.now }
 {
     if is_over(t, steps) | (steps < FEWEST_STEPS) {
-        return Stepped { tally: t, at: from };
+        return Run { tally: t, at: from };
     }
-    let mut lines = t.lines as usize;
+    let mut k = t.lines as usize;
     let stop = run_end(steps, t.lines) as usize;
     let mut i = half_hours(steps, t.lines) as usize * 10;
     let mut at = from;
-    for k in lines..stop {
-        let Power::Is(power, n) = front(at, i) else {
+    // By hand: how many steps were taken is the answer, which a `for` counts beside its own (tried: two instructions more
+    // for each step).
+    while k < stop {
+        let Some((power, n)) = front(at, i) else {
             break;
         };
         powers[k] = power;
         at += n;
+        k += 1;
         i += 10;
-        lines = k + 1;
     }
     let tally = Tally {
-        lines: lines as u32,
+        lines: k as u32,
         fault: 0,
-        place: t.place,
+        ..t
     };
-    Stepped { tally, at }
+    Run { tally, at }
 }
 
 // Whether 16 bytes at least and so many at most stand between two places.
@@ -162,7 +164,7 @@ pub(crate) fn steps_run(
     steps: u32,
     labels: &[u8],
     powers: &mut [u16; 50],
-) -> Stepped
+) -> Run<Tally>
     requires { (from ≤ length s.now) × (steps ≤ places) × (labels.now ≡ label_list)
         × ForSome layout (λ l. LaidOut (between_steps ++ before_from) s.now lead l) }
     ensures onward { Onward steps s.now from (record { tally = t; powers = powers.old })
@@ -213,14 +215,12 @@ pub(crate) fn first_step(
     if at < 2 {
         return None;
     }
-    let Power::Is(power, n) = plain_front(s, at - 2, b":[{\"Debu", labels, 0) else {
-        return None;
-    };
+    let (power, n) = plain_front(s, at - 2, b":[{\"Debu", labels, 0)?;
     powers[0] = power;
     let tally = Tally {
         lines: 1,
         fault: 0,
-        place: t.place,
+        ..t
     };
     Some(StepTold {
         tally,
@@ -253,14 +253,12 @@ pub(crate) fn listed_step(
     }
     let i = half_hours(steps, k) as usize * 10;
     let layout = layout_at(s, at)?;
-    let Power::Is(power, n) = own_front(s, layout, labels, i) else {
-        return None;
-    };
+    let (power, n) = own_front(s, layout, labels, i)?;
     powers[k as usize] = power;
     let tally = Tally {
         lines: k + 1,
         fault: 0,
-        place: t.place,
+        ..t
     };
     Some(StepTold {
         tally,

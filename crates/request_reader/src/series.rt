@@ -13,20 +13,13 @@ use crate::step::step_at;
 use crate::tokens::{after_mark, past_blanks};
 use lists::bytes::byte_at;
 use lists::numbers::least;
-use reader::tally::{LinePower, Tally, count, is_over, note};
+use reader::tally::{StepFault, Tally, count, is_over, note};
 use request::labels::hour_label;
 
 // The place of the first step.
 const FIRST_STEP: u32 = 1;
 
-// What is kept after a step's power, and the place after it.
-#[derive(Clone, Copy)]
-pub struct Stepped {
-    pub tally: Tally,
-    pub at: usize,
-}
-
-// The same, and how the step is laid out, where that was looked at.
+// What is kept after a step's power, the place after it, and how the step is laid out, where that was looked at.
 #[derive(Clone, Copy)]
 pub struct StepTold {
     pub tally: Tally,
@@ -35,7 +28,7 @@ pub struct StepTold {
 }
 
 // A step more, by what it says. After a fault, and past the day's steps, it is only counted.
-fn tell(t: Tally, steps: u32, said: LinePower, powers: &mut [u16; 50]) -> Tally
+fn tell(t: Tally, steps: u32, said: Result<u16, StepFault>, powers: &mut [u16; 50]) -> Tally
     requires { steps ≤ places }
     ensures { record { tally = result; powers = powers.new }
         ≡ step_taken first_step steps (record { tally = t; powers = powers.old }) said }
@@ -62,8 +55,8 @@ fn told_step(s: &[u8], at: usize, t: Tally, steps: u32, powers: &mut [u16; 50]) 
     let n = until.len as usize;
     let step = step_at(s, at, &from_bytes[..m], &until_bytes[..n])?;
     Some(StepTold {
-        tally: tell(t, steps, step.said, powers),
-        at: step.at,
+        tally: tell(t, steps, step.value, powers),
+        at: step.next,
         layout: None,
     })
 }

@@ -7,33 +7,12 @@ ghost use Rattle.request.specs.Reading.{is_label_byte};
 ghost use Rattle.request_reader.specs.Walking.{Missing, RunTo, WalkSays, between, framed, is_quoted};
 ghost use Rattle.request_reader.specs.Steps.{LabelAt, PowerAt, StepAt, front_tests, label_tests, power_of, power_tests, said_of};
 
-use crate::tokens::{after_mark, is_framed, value_from};
+use crate::tokens::{Found, after_mark, is_framed, value_from};
 use crate::words::same_text;
 use lists::bytes::byte_at;
 use notification::forms::is_digit;
-use reader::power::{Power, power_of};
-use reader::tally::LinePower;
-
-// Whether a label is the one wanted, and the place after it.
-#[derive(Clone, Copy)]
-pub struct LabelRead {
-    pub right: bool,
-    pub at: usize,
-}
-
-// The power that digits give, and the place after them.
-#[derive(Clone, Copy)]
-pub struct PowerRead {
-    pub power: Power,
-    pub at: usize,
-}
-
-// What a step says, and the place after its power.
-#[derive(Clone, Copy)]
-pub struct StepRead {
-    pub said: LinePower,
-    pub at: usize,
-}
+use reader::power::power_of;
+use reader::tally::StepFault;
 
 // Whether a byte may stand in a label.
 fn is_label_byte(b: u8) -> bool
@@ -95,21 +74,21 @@ fn is_quoted_at(s: &[u8], from: usize, text: &[u8]) -> bool
 }
 
 // The member of a label, and whether it is the label wanted.
-fn label_member(s: &[u8], at: usize, name: &[u8], wanted: &[u8]) -> Option<LabelRead>
+fn label_member(s: &[u8], at: usize, name: &[u8], wanted: &[u8]) -> Option<Found<bool>>
     requires { (at ≤ length s.now) × (is_quoted name.now ≡ true)
         × (every is_label_byte wanted.now ≡ true) × (length wanted.now ≤ 20) }
     ensures { MatchOption result (Missing (label_tests name.now) s.now at)
-        (λ l. LabelAt name.now wanted.now s.now at l.at l.right) }
+        (λ l. LabelAt name.now wanted.now s.now at l.next l.value) }
 {
     let from = value_from(s, at, name)?;
     if is_quoted_at(s, from, wanted) {
-        return Some(LabelRead {
-            right: true,
-            at: from + wanted.len() + 2,
+        return Some(Found {
+            value: true,
+            next: from + wanted.len() + 2,
         });
     }
-    let at = label_end(s, from)?;
-    Some(LabelRead { right: false, at })
+    let next = label_end(s, from)?;
+    Some(Found { value: false, next })
 }
 
 // A byte of a run of digits; `;` after them, and 0 past it.
@@ -128,7 +107,7 @@ fn digit_or_end(s: &[u8], from: usize, end: usize, i: usize) -> u8
 }
 
 // The power of a run of digits.
-fn digits_power(s: &[u8], from: usize, end: usize) -> Power
+fn digits_power(s: &[u8], from: usize, end: usize) -> Option<(u16, usize)>
     requires { (from ≤ end) × (end ≤ length s.now) }
     ensures { result ≡ power_of (take (end - from) (drop from s.now)) }
 {
@@ -142,50 +121,55 @@ fn digits_power(s: &[u8], from: usize, end: usize) -> Power
 }
 
 // The member of a power.
-fn power_member(s: &[u8], at: usize, name: &[u8]) -> Option<PowerRead>
+fn power_member(s: &[u8], at: usize, name: &[u8]) -> Option<Found<Option<(u16, usize)>>>
     requires { (at ≤ length s.now) × (is_quoted name.now ≡ true) }
     ensures { MatchOption result (Missing (power_tests name.now) s.now at)
-        (λ p. PowerAt name.now s.now at p.at p.power) }
+        (λ p. PowerAt name.now s.now at p.next p.value) }
 {
     let from = value_from(s, at, name)?;
     let end = digit_run(s, from);
     if end == from {
         return None;
     }
-    Some(PowerRead {
-        power: digits_power(s, from, end),
-        at: end,
+    Some(Found {
+        value: digits_power(s, from, end),
+        next: end,
     })
 }
 
 // What is said of a step by its labels and its power.
-fn say(right: bool, power: Power) -> LinePower
+fn say(right: bool, power: Option<(u16, usize)>) -> Result<u16, StepFault>
     ensures { result ≡ said_of right power }
 {
     if !right {
-        return LinePower::NoLabels;
+        return Err(StepFault::NoLabels);
     }
     match power {
-        Power::Is(v, _) => LinePower::Gives(v),
-        Power::Not => LinePower::NoPower,
+        Some((v, _)) => Ok(v),
+        None => Err(StepFault::NoPower),
     }
 }
 
 // A step up to its power, by the two labels that it should have.
-pub(crate) fn step_at(s: &[u8], at: usize, from: &[u8], until: &[u8]) -> Option<StepRead>
+pub(crate) fn step_at(
+    s: &[u8],
+    at: usize,
+    from: &[u8],
+    until: &[u8],
+) -> Option<Found<Result<u16, StepFault>>>
     requires { (at ≤ length s.now) × (every is_label_byte from.now ≡ true) × (length from.now ≤ 20)
         × (every is_label_byte until.now ≡ true) × (length until.now ≤ 20) }
     ensures { MatchOption result (Missing front_tests s.now at)
-        (λ r. StepAt from.now until.now s.now at r.at r.said) }
+        (λ r. StepAt from.now until.now s.now at r.next r.value) }
 {
     let inner = after_mark(s, at, b'{')?;
     let first = label_member(s, inner, b"\"Debut\"", from)?;
-    let next = after_mark(s, first.at, b',')?;
+    let next = after_mark(s, first.next, b',')?;
     let second = label_member(s, next, b"\"Fin\"", until)?;
-    let last = after_mark(s, second.at, b',')?;
+    let last = after_mark(s, second.next, b',')?;
     let third = power_member(s, last, b"\"Puissance\"")?;
-    Some(StepRead {
-        said: say(first.right & second.right, third.power),
-        at: third.at,
+    Some(Found {
+        value: say(first.value & second.value, third.value),
+        next: third.next,
     })
 }

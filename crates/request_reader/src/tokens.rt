@@ -8,6 +8,13 @@ ghost use Rattle.request_reader.specs.Walking.{Past, Passed, WalkSays, OpenSays,
 use crate::words::same_text;
 use lists::bytes::byte_at;
 
+// What was read at a place, and the place after it.
+#[derive(Clone, Copy)]
+pub struct Found<T> {
+    pub value: T,
+    pub next: usize,
+}
+
 // Whether a byte is a blank, a tab, CR or LF.
 fn is_blank(b: u8) -> bool
     ensures { result ≡ is_blank b }

@@ -8,7 +8,6 @@ use lists::bytes::byte_at;
 use lists::numbers::digit_value;
 use reader::header::alike;
 use reader::marks::four;
-use reader::power::Power;
 
 // Whether the same four bytes stand at a place of each text.
 pub(crate) fn four_at(s: &[u8], p: usize, t: &[u8], q: usize) -> bool
@@ -73,33 +72,33 @@ pub(crate) fn same_near(s: &[u8], p: usize, q: usize, n: usize) -> bool
 }
 
 // The power in the run of digits at a place: one digit, or up to four that begin with no 0.
-pub(crate) fn run_power(s: &[u8], a: usize) -> Power
+pub(crate) fn run_power(s: &[u8], a: usize) -> Option<(u16, usize)>
     requires { a + 4 ≤ length s.now }
     ensures { RunSays s.now a result }
 {
     let one = digit_value(s[a]);
     if 9 < one {
-        return Power::Not;
+        return None;
     }
     let next = digit_value(s[a + 1]);
     if 9 < next {
-        return Power::Is(one as u16, 1);
+        return Some((one as u16, 1));
     }
     if one == 0 {
-        return Power::Not;
+        return None;
     }
     let two = one * 10 + next;
     let next = digit_value(s[a + 2]);
     if 9 < next {
-        return Power::Is(two as u16, 2);
+        return Some((two as u16, 2));
     }
     let three = two * 10 + next;
     let next = digit_value(s[a + 3]);
     if 9 < next {
-        return Power::Is(three as u16, 3);
+        return Some((three as u16, 3));
     }
     if digit_value(byte_at(s, a + 4)) <= 9 {
-        return Power::Not;
+        return None;
     }
-    Power::Is((three * 10 + next) as u16, 4)
+    Some(((three * 10 + next) as u16, 4))
 }

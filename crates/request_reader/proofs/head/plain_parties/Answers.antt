@@ -6,4 +6,4 @@ pub returns : goal.returns
 returns c =
     plain_parties c.args.s.now (c.is_plain.ensures c.if-not-is_plain.false) _ _ _ _ _ _
     c.is_code.ensures c.is_code-2.ensures c.is_code-3.ensures c.if-not-is_code.false
-    c.sixteen.ensures c.sixteen-2.ensures c.sixteen-3.ensures
+    c.in_bytes.ensures c.in_bytes-2.ensures c.in_bytes-3.ensures

@@ -10,4 +10,4 @@ returns c =
     let n = c.category_length-n.result in
     plain_terms a.s.now a.at n (a.at + 26 + n - (a.at + 26)) _ _ _ _ (omega arith)
     c.same_text.ensures c.if-not-same_text.false c.is_category.ensures
-    c.if-not-is_category.false c.six.ensures c.plain_dates.ensures
+    c.if-not-is_category.false c.in_bytes.ensures c.plain_dates.ensures

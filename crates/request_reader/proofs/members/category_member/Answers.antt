@@ -88,4 +88,4 @@ returns c =
     part_found is_category category_unquoted _ _ from c.in_ok-from.ensures.opened n
     (category-length-said (goal.at.returns c).After-category_length-n) _
     (part_cut _ from n (from + n + 1) refl) (quotes-stand (goal.at.returns c).Else-not-is_framed)
-    (sym c.is_category.ensures ∙ c.if-not-is_category.false) (from + n + 1 + 1) (omega arith) six_bytes _ _ c.in_ok-next.ensures.walked c.six-value.ensures
+    (sym c.is_category.ensures ∙ c.if-not-is_category.false) (from + n + 1 + 1) (omega arith) six_bytes _ _ c.in_ok-next.ensures.walked c.in_bytes-value.ensures

@@ -67,4 +67,4 @@ returns c =
     let good = sym c.is_code.ensures ∙ c.if-not-is_code.false in
     part_found is_code code_unquoted _ _ from c.in_ok-from.ensures.opened 16 (code_long _ from) _
     (part_cut _ from 16 (from + 17) (omega arith)) (quotes-stand (goal.at.returns c).Else-not-is_framed)
-    good (from + 18) (omega arith) (λ t. t) _ _ c.in_ok-next.ensures.walked (code_filled _ _ good c.sixteen-value.ensures)
+    good (from + 18) (omega arith) (λ t. t) _ _ c.in_ok-next.ensures.walked (code_filled _ _ good c.in_bytes-value.ensures)

@@ -14,9 +14,9 @@ returns-in_err-second c =
 pub returns-in_err-day : goal.returns-in_err-day
 returns-in_err-day c =
     rw c.from_residual-in_err-day.ensures
-    (no_day c.args.s.now c.in_err-day.ensures)
+    (no_day c.args.s.now (sym c.in_err-day.ensures))
 
 pub returns : goal.returns
 returns c =
     moment_found c.args.s.now c.in_ok-second.second (sym c.in_ok-second.ensures) c.requires c.in_ok-day.day
-    (sym c.marks_stand.ensures ∙ c.if-not-marks_stand.false) c.in_ok-day.ensures
+    (sym c.marks_stand.ensures ∙ c.if-not-marks_stand.false) (sym c.in_ok-day.ensures)

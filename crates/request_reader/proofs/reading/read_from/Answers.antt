@@ -7,9 +7,7 @@ use Rattle.request_reader.proofs.ObjectReads.{past_end}
 use Rattle.request_reader.proofs.reading.read_from.Goals as goal
 
 pub returns-then-s-at : goal.returns-then-s-at
-returns-then-s-at c =
-    c.refuse.ensures ∙ past_end c.args.s.now c.args.at (omega (arith, c.if-s-at.true))
+returns-then-s-at c = past_end c.args.s.now c.args.at (omega (arith, c.if-s-at.true))
 
 pub returns : goal.returns
-returns c =
-    c.read_text.ensures ∙ ap read_object (rest_all c.args.at c.args.s.now)
+returns c = c.read_text.ensures ∙ ap read_object (rest_all c.args.at c.args.s.now)

@@ -11,12 +11,12 @@ plain_front-requires c =
 
 pub overflow_add-result : goal.overflow_add-result
 overflow_add-result c =
-    let w = rw c.in-Is.is at c.plain_front.ensures in
+    let w = c.in_ok-power.ensures in
     omega (arith, w.1.within)
 
 pub returns-clause-next_step : goal.returns-clause-next_step
 returns-clause-next_step c =
     let a = c.args in
-    let w = rw (c.in-Is.is, c.requires.2) at c.plain_front.ensures in
+    let w = rw c.requires.2 at c.in_ok-power.ensures in
     let m = may_run a.steps a.t _ c.is_over.ensures c.if-is_over-steps.false in
     first_next a.steps a.s.now a.at _ _ a.t a.powers.now (omega (arith, c.if-at-lt2.false)) c.if-t-ne0.false m.1 m.2 c.requires.1 w.1

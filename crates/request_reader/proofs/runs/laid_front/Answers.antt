@@ -20,19 +20,19 @@ overflow_add-result c =
     let w = c.requires.2 in
     omega (arith, w.to_from.upto, w.to_until.upto)
 
-pub overflow_add-result-in-Is : goal.overflow_add-result-in-Is
-overflow_add-result-in-Is c =
+pub overflow_add-result-2 : goal.overflow_add-result-2
+overflow_add-result-2 c =
     let w = c.requires.2 in
     omega (arith, w.to_from.upto, w.to_until.upto, w.to_power.upto)
 
-pub overflow_add-result-in-Is-2 : goal.overflow_add-result-in-Is-2
-overflow_add-result-in-Is-2 c =
+pub overflow_add-result-3 : goal.overflow_add-result-3
+overflow_add-result-3 c =
     let a = c.args in
-    let w : RunAt a.s.now _ _ _ = rw c.in-Is.is at c.run_power-read.ensures in
+    let w : RunAt a.s.now _ _ _ = c.in_ok-v.ensures in
     omega (arith, w.within, c.well_formed)
 
-pub returns-in-Is : goal.returns-in-Is
-returns-in-Is c =
+pub returns : goal.returns
+returns c =
     let a = c.args in
     laid_again a.s.now a.t.now a.at a.lead a.i a.l c.requires.1 c.requires.3 c.requires.4 _ _ _ refl refl refl _ _
     (sym c.same_at.ensures ∙ c.if-not-same_at.false)
@@ -40,4 +40,4 @@ returns-in-Is c =
     (sym c.same_near.ensures ∙ c.if-not-same_near.false)
     (sym c.four_at-2.ensures ∙ c.if-not-four_at-2.false)
     (sym c.same_near-2.ensures ∙ c.if-not-same_near-2.false)
-    (rw c.in-Is.is at c.run_power-read.ensures)
+    (c.in_ok-v.ensures)

@@ -36,7 +36,7 @@ bounds-powers-k c =
 
 pub overflow_add-result : goal.overflow_add-result
 overflow_add-result c =
-    let w = rw c.in-Is.is at c.own_front.ensures in
+    let w = c.in_ok-power.ensures in
     omega (arith, w.2.within)
 
 pub returns-clause-next_step : goal.returns-clause-next_step
@@ -49,7 +49,7 @@ returns-clause-next_step c =
     let p = c.run_end.ensures (omega arith) in
     let e = entries (goal.at.returns-clause-next_step c).In_ok-layout in
     let m = may_run a.steps a.t _ c.is_over.ensures c.if-is_over-steps.false in
-    let w = rw (c.in-Is.is, c.requires.2) at c.own_front.ensures in
+    let w = rw c.requires.2 at c.in_ok-power.ensures in
     let front = own_front a.s.now label_list a.at (half.result * 10) c.in_ok-layout.layout _ _ laid e.0 e.1 w in
     listed_next a.steps a.t c.run_end.result (half.result * 10) p (omega arith) (omega arith) a.s.now a.at _ _ a.powers.now
     m.1 m.0 m.2 c.requires.1 front

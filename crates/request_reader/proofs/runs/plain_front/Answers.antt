@@ -7,14 +7,14 @@ use Rattle.request_reader.proofs.runs.plain_front.Goals as goal
 
 pub overflow_add-result : goal.overflow_add-result
 overflow_add-result c =
-    let w = rw c.in-Is.is at c.run_power-read.ensures in
+    let w = c.in_ok-v.ensures in
     omega (arith, w.within)
 
-pub returns-in-Is : goal.returns-in-Is
-returns-in-Is c =
+pub returns : goal.returns
+returns c =
     let a = c.args in
     let p = c.requires in
-    let w = rw c.in-Is.is at c.run_power-read.ensures in
+    let w = c.in_ok-v.ensures in
     plain_flags a.s.now a.lead.now a.t.now a.at a.i _ _ _ _ _ _ _ _ p.1 p.2 p.3 p.4 w
     c.eight_at.ensures c.eight_at-2.ensures c.eight_at-3.ensures
     c.eight_at-4.ensures c.eight_at-5.ensures c.eight_at-6.ensures

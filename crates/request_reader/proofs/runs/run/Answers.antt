@@ -1,5 +1,4 @@
 -- `runs::run` meets its contract: as long as the loop runs, what is kept now and the tokens from here on say what they said at first.
-use mathlib.Core.Path.{refl}
 use native.Mathlib.Omega.{arith}
 use Rattle.request_reader.proofs.StepRuns.{onward_refl}
 use Rattle.request_reader.proofs.RunLoops.{run_start, run_entries, run_more, within_day}
@@ -27,21 +26,21 @@ loop-k-init g c =
     let a = c.args in
     let m = may_run a.steps a.t _ c.is_over.ensures c.if-is_over-steps.false in
     let h = c.half_hours.ensures.0 in
-    (refl, run_start a.steps c.run_end-stop.result a.s.now a.from _ a.t a.powers.now m.1 (omega arith) c.requires.known.0)
+    run_start a.steps c.run_end-stop.result a.s.now a.from _ a.t a.powers.now m.1 (omega arith) c.requires.known.0
 
 pub front-requires : goal.front-requires
 front-requires g c =
     let a = c.args in
     let l = c.loop-k in
     let h = c.loop-k-test.true in
-    let p = c.run_end-stop.ensures (omega (arith, l.auto.k)) in
-    let e = run_entries a.steps a.t.lines c.run_end-stop.result a.s.now a.from _ p _ _ _ _ l.invariant.1 h in
-    (c.requires.fronts l.at l.i l.invariant.1.within (rw c.requires.known.2 e.0) (rw c.requires.known.2 e.1)).0
+    let p = c.run_end-stop.ensures (omega (arith, l.invariant.on)) in
+    let e = run_entries a.steps a.t.lines c.run_end-stop.result a.s.now a.from _ p _ _ _ _ l.invariant h in
+    (c.requires.fronts l.at l.i l.invariant.within (rw c.requires.known.2 e.0) (rw c.requires.known.2 e.1)).0
 
 pub bounds-powers-k : goal.bounds-powers-k
 bounds-powers-k g c =
     let h = c.loop-k-test.true in
-    let p = c.run_end-stop.ensures (omega (arith, c.loop-k.auto.k)) in
+    let p = c.run_end-stop.ensures (omega (arith, c.loop-k.invariant.on)) in
     omega (arith, c.requires.known.1, p.within)
 
 pub overflow_add-at : goal.overflow_add-at
@@ -49,10 +48,10 @@ overflow_add-at g c =
     let a = c.args in
     let l = c.loop-k in
     let h = c.loop-k-test.true in
-    let p = c.run_end-stop.ensures (omega (arith, l.auto.k)) in
-    let e = run_entries a.steps a.t.lines c.run_end-stop.result a.s.now a.from _ p _ _ _ _ l.invariant.1 h in
-    let says = (c.requires.fronts l.at l.i l.invariant.1.within (rw c.requires.known.2 e.0) (rw c.requires.known.2 e.1)).1 _ c.front.ensures in
-    let w = rw c.in-Is.is at says in
+    let p = c.run_end-stop.ensures (omega (arith, l.invariant.on)) in
+    let e = run_entries a.steps a.t.lines c.run_end-stop.result a.s.now a.from _ p _ _ _ _ l.invariant h in
+    let says = (c.requires.fronts l.at l.i l.invariant.within (rw c.requires.known.2 e.0) (rw c.requires.known.2 e.1)).1 _ c.front.ensures in
+    let w = rw c.in-Some.is at says in
     omega (arith, w.within)
 
 pub loop-k-preserved : goal.loop-k-preserved
@@ -61,22 +60,22 @@ loop-k-preserved g c =
     let l = c.loop-k in
     let m = may_run a.steps a.t _ c.is_over.ensures c.if-is_over-steps.false in
     let h = c.loop-k-test.true in
-    let p = c.run_end-stop.ensures (omega (arith, l.auto.k)) in
-    let e = run_entries a.steps a.t.lines c.run_end-stop.result a.s.now a.from _ p _ _ _ _ l.invariant.1 h in
-    let says = (c.requires.fronts l.at l.i l.invariant.1.within (rw c.requires.known.2 e.0) (rw c.requires.known.2 e.1)).1 _ c.front.ensures in
-    let w = rw (c.in-Is.is, c.requires.known.2) at says in
-    (refl, run_more a.steps a.t.lines c.run_end-stop.result a.s.now a.from _ p _ _ _ _ l.invariant.1 h m.2 c.requires.known.1 _ _ w)
+    let p = c.run_end-stop.ensures (omega (arith, l.invariant.on)) in
+    let e = run_entries a.steps a.t.lines c.run_end-stop.result a.s.now a.from _ p _ _ _ _ l.invariant h in
+    let says = (c.requires.fronts l.at l.i l.invariant.within (rw c.requires.known.2 e.0) (rw c.requires.known.2 e.1)).1 _ c.front.ensures in
+    let w = rw (c.in-Some.is, c.requires.known.2) at says in
+    run_more a.steps a.t.lines c.run_end-stop.result a.s.now a.from _ p _ _ _ _ l.invariant h m.2 c.requires.known.1 _ _ w
 
 pub overflow_cast-tally : goal.overflow_cast-tally
 overflow_cast-tally g c =
     let i = c.loop-k.invariant in
     let m = may_run c.args.steps c.args.t _ c.is_over.ensures c.if-is_over-steps.false in
-    let e = within_day c.args.t.lines _ i.1.on (λ h. omega (arith, i.1.upto h, c.requires.known.1, (c.run_end-stop.ensures (omega (arith, h, i.1.upto h))).within)) (omega (arith, m.0, c.requires.known.1)) in
-    omega (arith, e, i.0)
+    let e = within_day c.args.t.lines _ i.on (λ h. omega (arith, i.upto h, c.requires.known.1, (c.run_end-stop.ensures (omega (arith, h, i.upto h))).within)) (omega (arith, m.0, c.requires.known.1)) in
+    omega (arith, e)
 
 pub returns : goal.returns
 returns g c =
     let i = c.loop-k.invariant in record {
-      onward = rw i.0 i.1.onward;
-      at_in_bounds = i.1.within;
+      onward = i.onward;
+      at_in_bounds = i.within;
     }

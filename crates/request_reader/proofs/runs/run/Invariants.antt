@@ -1,9 +1,11 @@
 -- `runs::run` meets its contract: as long as the loop runs, what is kept now and the tokens from here on say what they said at first.
 use Prim.Native.Nat.{◌-◌}
-use mathlib.Core.Path.{◌≡◌}
 use Rattle.request_reader.proofs.RunLoops.{RunInv}
 use Rattle.request_reader.proofs.runs.run.Given as goal
 
 abbrev pub invariant-loop-k : goal.invariant-loop-k
 invariant-loop-k g l =
-    (l.lines ≡ l.k) × RunInv l.fn.steps l.fn.t.lines l.stop l.s l.fn.from (record { tally = l.fn.t; powers = l.initial.powers }) l.k l.i l.at l.powers
+    RunInv l.steps l.t.lines l.stop l.s l.from (record { tally = l.t; powers = l.initial.powers }) l.k l.i l.at l.powers
+
+abbrev pub decreases-loop-k : goal.decreases-loop-k
+decreases-loop-k g l = l.stop - l.k

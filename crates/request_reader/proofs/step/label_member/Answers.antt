@@ -42,12 +42,12 @@ returns-then-is_quoted_at c =
 pub label_end-requires : goal.label_end-requires
 label_end-requires c = (c.in_ok-from.ensures.within, c.in_ok-from.ensures.past.no_blank)
 
-pub returns-in_err-at : goal.returns-in_err-at
-returns-in_err-at c =
-    rw c.from_residual-in_err-at.ensures
-    (value_missing c.args.name.now c.args.s.now c.args.at _ c.in_ok-from.ensures (quoted_by (every is_label_byte)) c.in_err-at.ensures)
+pub returns-in_err-next : goal.returns-in_err-next
+returns-in_err-next c =
+    rw c.from_residual-in_err-next.ensures
+    (value_missing c.args.name.now c.args.s.now c.args.at _ c.in_ok-from.ensures (quoted_by (every is_label_byte)) c.in_err-next.ensures)
 
 pub returns : goal.returns
 returns c =
     label_other c.args.name.now c.args.s.now c.args.at _ c.in_ok-from.ensures c.args.wanted.now _
-    (sym c.is_quoted_at.ensures ∙ c.if-is_quoted_at.false) c.in_ok-at.ensures
+    (sym c.is_quoted_at.ensures ∙ c.if-is_quoted_at.false) c.in_ok-next.ensures
