@@ -1,7 +1,7 @@
 // The key in a name and in a header: ceder, acquirer, date and category, parted by a byte.
-ghost use Rattle.std.specs.Prelude.{◌≡◌, ◌+◌, ◌≤◌, length};
+ghost use Rattle.std.specs.Prelude.{◌≡◌};
 ghost use Rattle.notification.specs.Reading.{is_header};
-ghost use Rattle.reader.specs.Parts.{key_read, marked, name_read};
+ghost use Rattle.reader.specs.Parts.{key_read, name_read};
 
 use calendar::day_of;
 use notification::Key;
@@ -34,47 +34,21 @@ fn key_in(s: &[u8], by: u8) -> Option<Key>
     })
 }
 
-// Whether a text begins with `NER_` and ends with `.csv`.
-fn is_marked(name: &[u8], end: usize) -> bool
-    requires { (4 ≤ end) × (end + 4 ≡ length name.now) }
-    ensures { result ≡ marked name.now end }
-{
-    (name[0] == b'N')
-        & (name[1] == b'E')
-        & (name[2] == b'R')
-        & (name[3] == b'_')
-        & (name[end] == b'.')
-        & (name[end + 1] == b'c')
-        & (name[end + 2] == b's')
-        & (name[end + 3] == b'v')
-}
-
-// The key of a name.
+// The key of a name: it stands between `NER_` and `.csv`.
 pub(crate) fn name_key(name: &[u8]) -> Option<Key>
     ensures { result ≡ name_read name.now }
 {
-    let n = name.len();
-    if n < 8 {
-        return None;
-    }
-    let end = n - 4;
-    if !is_marked(name, end) {
-        return None;
-    }
-    key_in(&name[4..end], b'_')
+    let rest = name.strip_prefix(b"NER_")?;
+    let key = rest.strip_suffix(b".csv")?;
+    key_in(key, b'_')
 }
 
-// Whether a line is a header.
+// Whether a line is a header: a key and `;`.
 pub(crate) fn is_header(line: &[u8]) -> bool
     ensures { result ≡ is_header line.now }
 {
-    let n = line.len();
-    if n < 1 {
-        return false;
+    match line.strip_suffix(b";") {
+        Some(key) => key_in(key, b';').is_some(),
+        None => false,
     }
-    let end = n - 1;
-    if line[end] != b';' {
-        return false;
-    }
-    key_in(&line[0..end], b';').is_some()
 }

@@ -102,17 +102,13 @@ pub(crate) fn take_lines(
     ensures at_in_bounds { result.at ≤ length body.now }
 {
     let first = take_header(t, header, body, from);
-    let tally = first.tally;
-    let at = first.at;
-    if tally.header != NAMES_HEADER {
-        return pass_lines(tally, body, at);
+    if first.tally.header != NAMES_HEADER {
+        return pass_lines(first.tally, body, first.at);
     }
-    let before = tally.steps;
-    let run = take_steps(before, steps, body, at, powers);
-    let steps = run.tally;
+    let run = take_steps(first.tally.steps, steps, body, first.at, powers);
     let tally = FileTally {
         header: NAMES_HEADER,
-        steps,
+        steps: run.tally,
     };
     Run { tally, at: run.at }
 }

@@ -191,22 +191,19 @@ impl FileReader {
         ensures { in_hand result
             ≡ walked (in_hand self) total (with_powers tally powers) (drop from piece.now) }
     {
-        let header = self.header;
         let named = least(self.named, LONGEST_HEADER);
-        let n = named as usize;
         let steps = least(self.steps, STEPS);
+        let header = &self.header[..named as usize];
         let mut powers = powers;
-        let run = take_lines(tally, &header[..n], steps, piece, from, &mut powers);
-        let tally = run.tally;
-        let at = run.at;
+        let run = take_lines(tally, header, steps, piece, from, &mut powers);
         FileReader {
             steps,
             named,
             length: total,
-            tally,
+            tally: run.tally,
             powers,
-            held: least_length(piece.len() - at, HELD as usize) as u32,
-            line: first_bytes(piece, at),
+            held: least_length(piece.len() - run.at, HELD as usize) as u32,
+            line: first_bytes(piece, run.at),
             ..self
         }
     }
@@ -218,32 +215,27 @@ impl FileReader {
             ≡ continued (in_hand self) total piece.now (byte_from 10 piece.now 0) }
     {
         let end = byte_from(piece, 0, b'\n');
-        let line = self.line;
-        let whole = whole_line(line, self.held, piece, end);
-        let text = whole.text;
+        let whole = whole_line(self.line, self.held, piece, end);
         if piece.len() <= end {
             return FileReader {
                 length: total,
                 held: whole.length,
-                line: first_bytes(&text, 0),
+                line: first_bytes(&whole.text, 0),
                 ..self
             };
         }
-        let header = self.header;
         let n = least(self.named, LONGEST_HEADER) as usize;
-        let m = whole.length as usize + 1;
-        let tally = self.tally;
+        let line = &whole.text[..whole.length as usize + 1];
         let mut powers = self.powers;
         let run = take_lines(
-            tally,
-            &header[..n],
+            self.tally,
+            &self.header[..n],
             least(self.steps, STEPS),
-            &text[..m],
+            line,
             0,
             &mut powers,
         );
-        let taken = run.tally;
-        self.walk(total, taken, powers, piece, end + 1)
+        self.walk(total, run.tally, powers, piece, end + 1)
     }
 
     // A piece more: each is handed in once, cut anywhere.
@@ -258,9 +250,7 @@ impl FileReader {
             };
         }
         if self.held == 0 {
-            let tally = self.tally;
-            let powers = self.powers;
-            return self.walk(total, tally, powers, piece, 0);
+            return self.walk(total, self.tally, self.powers, piece, 0);
         }
         self.go_on(total, piece)
     }
@@ -272,11 +262,8 @@ impl FileReader {
         refuse_if(self.named < SHORTEST_HEADER, InputRefusal::Name)?;
         let whole = (1 <= self.length) & (self.length <= MOST_BYTES) & (self.held == 0);
         refuse_if(!whole, InputRefusal::Body)?;
-        let header = self.header;
         let n = least(self.named, LONGEST_HEADER) as usize;
-        let key = key_of(&header[..n], self.day);
-        let tally = self.tally;
-        let powers = self.powers;
-        conclude(key, least(self.steps, STEPS), tally, powers)
+        let key = key_of(&self.header[..n], self.day);
+        conclude(key, least(self.steps, STEPS), self.tally, self.powers)
     }
 }

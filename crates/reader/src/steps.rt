@@ -32,14 +32,12 @@ fn line_power(steps: u32, k: u32, line: &[u8]) -> Result<u16, StepFault>
     ensures { result ≡ line_power steps k line.now }
 {
     let labels = labels_of(steps, k);
-    let from = labels.from;
-    let until = labels.until;
-    let m = from.len as usize;
-    let n = until.len as usize;
-    if !stands(line, 0, &from.bytes, m) {
+    let m = labels.from.len as usize;
+    let n = labels.until.len as usize;
+    if !stands(line, 0, &labels.from.bytes, m) {
         return Err(StepFault::NoLabels);
     }
-    if !stands(line, m + 1, &until.bytes, n) {
+    if !stands(line, m + 1, &labels.until.bytes, n) {
         return Err(StepFault::NoLabels);
     }
     let at = m + n + 2;
@@ -120,15 +118,12 @@ pub(crate) fn take_steps(
     let mut tally = t;
     let mut at = from;
     loop {
-        let run = good_run(tally, steps, body, at, &mut *powers);
-        let start = run.at;
-        let end = byte_from(body, start, b'\n');
+        let run = good_run(tally, steps, body, at, powers);
+        let end = byte_from(body, run.at, b'\n');
         if body.len() <= end {
             return run;
         }
-        let sofar = run.tally;
-        let next = take_step(sofar, steps, &body[start..end], &mut *powers);
-        tally = next;
+        tally = take_step(run.tally, steps, &body[run.at..end], powers);
         at = end + 1;
     }
 }

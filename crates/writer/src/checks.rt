@@ -23,11 +23,8 @@ pub fn category_length(category: [u8; 6]) -> usize
 pub fn is_formed(key: Key) -> bool
     ensures { result ≡ formed key }
 {
-    let ceder = key.ceder;
-    let acquirer = key.acquirer;
-    let category = key.category;
-    let n = category_length(category);
-    is_code(&ceder) & is_code(&acquirer) & is_category(&category[..n])
+    let n = category_length(key.category);
+    is_code(&key.ceder) & is_code(&key.acquirer) & is_category(&key.category[..n])
 }
 
 // Whether each power is below 10,000. Each is looked at, so that many are compared at once.
@@ -53,18 +50,15 @@ pub fn is_ranged(n: Notification) -> bool
     ensures { result ≡ ranged n }
 {
     let day = n.key.day;
-    let steps = n.steps;
-    let powers = n.powers;
     (day < DAYS)
-        & (steps == steps_of(day))
-        & all_powers(&powers)
-        & zeros_from(&powers, steps as usize)
+        & (n.steps == steps_of(day))
+        & all_powers(&n.powers)
+        & zeros_from(&n.powers, n.steps as usize)
 }
 
 // Whether every power is 0.
 pub fn is_zero(n: Notification) -> bool
     ensures { result ≡ all_zero n.powers }
 {
-    let powers = n.powers;
-    zeros_from(&powers, 0)
+    zeros_from(&n.powers, 0)
 }

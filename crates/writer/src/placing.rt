@@ -17,7 +17,7 @@ pub fn put_ended(buffer: &mut [u8], at: usize, text: &[u8], end: u8) -> usize
     requires { at + length text.now < length buffer.old }
     ensures { Placed buffer.old at (text.now ++ end ∷ []) buffer.new result }
 {
-    let next = put_text(&mut *buffer, at, text);
+    let next = put_text(buffer, at, text);
     buffer[next] = end;
     next + 1
 }

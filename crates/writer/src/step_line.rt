@@ -6,20 +6,14 @@ ghost use Rattle.notification.specs.Writing.{labels_text, power_text};
 ghost use Rattle.writer.specs.Placing.{Placed, step_text};
 
 use crate::placing::put_ended;
+use calendar::texts::digit;
 use calendar::{Label, labels_of};
 
-// A power in digits: `len` of the bytes.
+// A power in digits: `len` of the bytes, since without a heap there is no text to give out.
 #[derive(Clone, Copy)]
 pub struct Digits {
     pub bytes: [u8; 4],
     pub len: usize,
-}
-
-// The last digit of a number.
-fn digit(n: u16) -> u8
-    ensures { result ≡ 48 + n % 10 }
-{
-    (48 + n % 10) as u8
 }
 
 // A power in digits, without sign or needless zero.
@@ -27,21 +21,22 @@ pub fn digits_of(p: u16) -> Digits
     requires { p < power_end }
     ensures { (take result.len result.bytes ≡ digits p) × (result.len ≡ length (digits p)) × (length result.bytes ≡ 4) }
 {
-    let ones = digit(p);
+    let n = u32::from(p);
+    let ones = digit(n);
     if p < 10 {
         return Digits {
             bytes: [ones, 0, 0, 0],
             len: 1,
         };
     }
-    let tens = digit(p / 10);
+    let tens = digit(n / 10);
     if p < 100 {
         return Digits {
             bytes: [tens, ones, 0, 0],
             len: 2,
         };
     }
-    let hundreds = digit(p / 100);
+    let hundreds = digit(n / 100);
     if p < 1000 {
         return Digits {
             bytes: [hundreds, tens, ones, 0],
@@ -49,7 +44,7 @@ pub fn digits_of(p: u16) -> Digits
         };
     }
     Digits {
-        bytes: [digit(p / 1000), hundreds, tens, ones],
+        bytes: [digit(n / 1000), hundreds, tens, ones],
         len: 4,
     }
 }
@@ -60,10 +55,8 @@ pub(crate) fn line_length(steps: u32, step: u32, p: u16) -> usize
     ensures { result ≡ length (step_text steps step p) }
 {
     let labels = labels_of(steps, step);
-    let from = labels.from;
-    let until = labels.until;
     let power = digits_of(p);
-    from.len as usize + until.len as usize + power.len + 4
+    labels.from.len as usize + labels.until.len as usize + power.len + 4
 }
 
 // Puts a label and `;`.
@@ -72,9 +65,7 @@ fn put_label(buffer: &mut [u8], at: usize, label: Label) -> usize
     ensures { Placed buffer.old at (take label.len label.bytes ++ 59 ∷ [])
         buffer.new result }
 {
-    let bytes = label.bytes;
-    let len = label.len as usize;
-    put_ended(buffer, at, &bytes[..len], b';')
+    put_ended(buffer, at, &label.bytes[..label.len as usize], b';')
 }
 
 // Puts a step's two labels.
@@ -83,10 +74,8 @@ fn put_labels(buffer: &mut [u8], at: usize, steps: u32, step: u32) -> usize
     ensures { Placed buffer.old at (labels_text steps step) buffer.new result }
 {
     let labels = labels_of(steps, step);
-    let from = labels.from;
-    let until = labels.until;
-    let next = put_label(&mut *buffer, at, from);
-    put_label(buffer, next, until)
+    let next = put_label(buffer, at, labels.from);
+    put_label(buffer, next, labels.until)
 }
 
 // Puts a power and `;`.
@@ -95,9 +84,7 @@ fn put_power(buffer: &mut [u8], at: usize, p: u16) -> usize
     ensures { Placed buffer.old at (power_text p) buffer.new result }
 {
     let power = digits_of(p);
-    let bytes = power.bytes;
-    let len = power.len;
-    put_ended(buffer, at, &bytes[..len], b';')
+    put_ended(buffer, at, &power.bytes[..power.len], b';')
 }
 
 // Puts a step's line.
@@ -106,8 +93,8 @@ pub(crate) fn put_line(buffer: &mut [u8], at: usize, steps: u32, step: u32, p: u
         × (at + length (step_text steps step p) ≤ length buffer.old) }
     ensures { Placed buffer.old at (step_text steps step p) buffer.new result }
 {
-    let second = put_labels(&mut *buffer, at, steps, step);
-    let end = put_power(&mut *buffer, second, p);
+    let second = put_labels(buffer, at, steps, step);
+    let end = put_power(buffer, second, p);
     buffer[end] = b'\n';
     end + 1
 }

@@ -33,11 +33,8 @@ fn body_length(n: Notification) -> usize
     requires { (formed n.key ≡ true) × (ranged n ≡ true) }
     ensures { result ≡ length (body_of n) }
 {
-    let key = n.key;
-    let category = key.category;
-    let powers = n.powers;
-    let head = HEADER_FRAME + category_length(category);
-    head + lines_length(n.steps, &powers)
+    let head = HEADER_FRAME + category_length(n.key.category);
+    head + lines_length(n.steps, &n.powers)
 }
 
 // How long a key's name is.
@@ -45,8 +42,7 @@ fn name_length(key: Key) -> usize
     requires { formed key ≡ true }
     ensures { result ≡ length (name_of key) }
 {
-    let category = key.category;
-    NAME_FRAME + category_length(category)
+    NAME_FRAME + category_length(key.category)
 }
 
 // What writing comes to, by the lengths of the two buffers: 9, 10, 8 and 36 in this order. Only a notification that
@@ -69,12 +65,9 @@ fn put_start(buffer: &mut [u8], at: usize, key: Key, by: u8) -> usize
     requires { at + length (key_start by key) ≤ length buffer.old }
     ensures { Placed buffer.old at (key_start by key) buffer.new result }
 {
-    let ceder = key.ceder;
-    let acquirer = key.acquirer;
-    let date = text_of(key.day);
-    let second = put_ended(&mut *buffer, at, &ceder, by);
-    let third = put_ended(&mut *buffer, second, &acquirer, by);
-    put_ended(buffer, third, &date, by)
+    let second = put_ended(buffer, at, &key.ceder, by);
+    let third = put_ended(buffer, second, &key.acquirer, by);
+    put_ended(buffer, third, &text_of(key.day), by)
 }
 
 // Puts a key's name.
@@ -82,11 +75,10 @@ fn put_name(buffer: &mut [u8], key: Key) -> usize
     requires { length (name_of key) ≤ length buffer.old }
     ensures { Placed buffer.old 0 (name_of key) buffer.new result }
 {
-    let category = key.category;
-    let n = category_length(category);
-    let second = put_text(&mut *buffer, 0, b"NER_");
-    let third = put_start(&mut *buffer, second, key, b'_');
-    let last = put_text(&mut *buffer, third, &category[..n]);
+    let n = category_length(key.category);
+    let second = put_text(buffer, 0, b"NER_");
+    let third = put_start(buffer, second, key, b'_');
+    let last = put_text(buffer, third, &key.category[..n]);
     put_text(buffer, last, b".csv")
 }
 
@@ -95,10 +87,9 @@ fn put_header(buffer: &mut [u8], key: Key) -> usize
     requires { length (header_of key) + 1 ≤ length buffer.old }
     ensures { Placed buffer.old 0 (header_of key ++ 10 ∷ []) buffer.new result }
 {
-    let category = key.category;
-    let n = category_length(category);
-    let second = put_start(&mut *buffer, 0, key, b';');
-    let end = put_ended(&mut *buffer, second, &category[..n], b';');
+    let n = category_length(key.category);
+    let second = put_start(buffer, 0, key, b';');
+    let end = put_ended(buffer, second, &key.category[..n], b';');
     buffer[end] = b'\n';
     end + 1
 }
@@ -112,7 +103,7 @@ fn put_lines(buffer: &mut [u8], at: usize, steps: u32, powers: &[u16]) -> usize
 {
     let mut next = at;
     for k in 0..steps {
-        next = put_line(&mut *buffer, next, steps, k, powers[k as usize]);
+        next = put_line(buffer, next, steps, k, powers[k as usize]);
     }
     next
 }
@@ -122,9 +113,8 @@ fn put_body(buffer: &mut [u8], n: Notification) -> usize
     requires { (ranged n ≡ true) × (length (body_of n) ≤ length buffer.old) }
     ensures { Placed buffer.old 0 (body_of n) buffer.new result }
 {
-    let powers = n.powers;
-    let first = put_header(&mut *buffer, n.key);
-    put_lines(buffer, first, n.steps, &powers)
+    let first = put_header(buffer, n.key);
+    put_lines(buffer, first, n.steps, &n.powers)
 }
 
 // Writes a notification's name and body into two lent buffers, the rest of both untouched, and gives their lengths. A

@@ -3,8 +3,8 @@ use mathlib.Core.Path.{◌∙◌}
 use Rattle.reader.proofs.Heads.{Past, text_taken, steps_taken, rest_taken, rest_within}
 use Rattle.reader.proofs.lines.take_lines.Goals as goal
 
-pub returns-then-tally-ne-NAMES_HEADER : goal.returns-then-tally-ne-NAMES_HEADER
-returns-then-tally-ne-NAMES_HEADER c =
+pub returns-then-first-ne-NAMES_HEADER : goal.returns-then-first-ne-NAMES_HEADER
+returns-then-first-ne-NAMES_HEADER c =
     let a = c.args in
     let h = a.header.now in
     let s = a.body.now in
@@ -31,7 +31,7 @@ returns c =
     let p : Past h s a.from a.t u at = (e.tally_value, (e.body_value, e.at_in_bounds)) in
     let r = run.result.at in
     let q = run.ensures in record {
-      powers_after = steps_taken h s a.from a.t u at p a.steps a.powers.now _ run.result.tally c.if-tally-ne-NAMES_HEADER.false q.powers_after;
+      powers_after = steps_taken h s a.from a.t u at p a.steps a.powers.now _ run.result.tally c.if-first-ne-NAMES_HEADER.false q.powers_after;
       body_value = rest_taken h s a.from a.t u at p r q.at_value;
       at_in_bounds = rest_within h s a.from a.t u at p r q.at_value;
     }

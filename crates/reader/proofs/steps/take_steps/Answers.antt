@@ -38,6 +38,6 @@ loop-run-preserved c =
     let a = c.args in (
       omega (arith, h),
       c.loop-run.invariant.1
-          ∙ (g.ensures.kept ∙ take_first a.steps a.body.now g.result.at c.byte_from-end.result (ended (goal.at.loop-run-preserved c).After-byte_from-end) _ _ h c.take_step-next.ensures),
+          ∙ (g.ensures.kept ∙ take_first a.steps a.body.now g.result.at c.byte_from-end.result (ended (goal.at.loop-run-preserved c).After-byte_from-end) _ _ h c.take_step-tally.ensures),
       c.loop-run.invariant.2 ∙ (g.ensures.rest ∙ whole_here a.body.now g.result.at c.byte_from-end.result (ended (goal.at.loop-run-preserved c).After-byte_from-end) h),
     )
