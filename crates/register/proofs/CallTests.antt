@@ -1,9 +1,9 @@
 -- What the tests of a call come to for the ledger that a head holds, by what the code has found of each.
-use Rattle.std.specs.Prelude.{Err, None, Option, Some, is_some}
+use Rattle.std.specs.Prelude.{Err, Option, is_some}
 use mathlib.Core.Path.{◌≡◌, refl, sym, ◌∙◌, ap}
 use mathlib.Core.Bool.{Bool, true, false, not, ◌&&◌, ◌||◌}
 use mathlib.Core.List.{List, [], ◌∷◌, ◌++◌}
-use Prim.Native.Nat.{ℕ, ◌+◌, ◌≤◌, ◌<◌, min}
+use Prim.Native.Nat.{ℕ, ◌+◌, ◌≤◌, ◌<◌}
 use lib.Dec.{leb, ltb, eqb}
 use lib.ListN.{length, get_or, take}
 use lib.Seq.{take_all}

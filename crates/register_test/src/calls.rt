@@ -1,115 +1,88 @@
 // The calls that may change a register, each by a line of a scenario.
 use crate::actors::code_of;
+use crate::book::Book;
 use crate::files::file_of;
-use crate::powers::{first_of, load_of};
-use crate::words::{date, number, part, rest, word};
+use crate::powers::load_of;
+use crate::words::{date, first, number, word};
+use ledger::Answer;
 use lists::bytes::byte_at;
-use register::{Head, Reply};
+use refusals::Refusal;
+use register::Reply;
 
 // `actor ACTOR FIRST LAST`: enrols an actor with its contract. A text that is no letter is a code as it stands.
-fn actor(head: Head, line: &[u8]) -> Reply {
+fn actor(book: &Book, line: &[u8]) -> Reply {
     let who = word(line, 1);
-    let first = date(word(line, 2));
-    let last = date(word(line, 3));
+    let from = date(word(line, 2));
+    let until = date(word(line, 3));
     if who.len() == 1 {
         let code = code_of(who);
-        return head.enrol_actor(&code, first, last);
+        return book.head.enrol_actor(&code, from, until);
     }
-    head.enrol_actor(who, first, last)
+    book.head.enrol_actor(who, from, until)
 }
 
 // `category CATEGORY`: enrols a category.
-fn category(head: Head, line: &[u8]) -> Reply {
-    head.enrol_category(word(line, 1))
+fn category(book: &Book, line: &[u8]) -> Reply {
+    book.head.enrol_category(word(line, 1))
 }
 
 // `to DATE MINUTE`: advances the clock.
-fn to(head: Head, line: &[u8]) -> Reply {
-    head.advance(date(word(line, 1)), number(word(line, 2)))
+fn to(book: &Book, line: &[u8]) -> Reply {
+    book.head
+        .advance(date(word(line, 1)), number(word(line, 2)))
 }
 
 // `load ACTOR CATEGORY DATE APPROVED COUNT POWER [STEP POWER]`: loads as many powers as the count says.
-fn load(
-    head: Head,
-    numbers: &mut [u32; 64],
-    approved: &mut [u16; 64],
-    loads: &mut [[u16; 50]; 64],
-    line: &[u8],
-) -> Reply {
+fn load(book: &mut Book, line: &[u8]) -> Reply {
     let load = load_of(line);
-    let actor = load.actor;
-    let powers = load.powers;
+    let head = book.head;
     head.load(
-        numbers,
-        approved,
-        loads,
-        &actor,
+        &mut book.numbers,
+        &mut book.approved,
+        &mut book.loads,
+        &load.actor,
         word(line, 2),
         load.day,
         load.approved,
-        first_of(&powers, load.count),
+        first(&load.powers, load.count),
     )
 }
 
 // `file`, `named` and `body` (see `files`): files a name and a body.
-fn file(
-    head: Head,
-    statuses: &mut [u8; 256],
-    ids: &mut [u32; 256],
-    keys: &mut [u32; 256],
-    marks: &mut [[u8; 4]; 256],
-    rows: &mut [[u16; 50]; 256],
-    numbers: &[u32; 64],
-    approved: &[u16; 64],
-    loads: &[[u16; 50]; 64],
-    line: &[u8],
-) -> Reply {
+fn file(book: &mut Book, line: &[u8]) -> Reply {
     let submitter = code_of(word(line, 1));
     let file = file_of(line);
-    let name = file.name;
-    let body = file.body;
+    let head = book.head;
     head.file(
-        statuses,
-        ids,
-        keys,
-        marks,
-        rows,
-        numbers,
-        approved,
-        loads,
+        &mut book.statuses,
+        &mut book.ids,
+        &mut book.keys,
+        &mut book.marks,
+        &mut book.rows,
+        &book.numbers,
+        &book.approved,
+        &book.loads,
         &submitter,
-        part(&name, 0, file.name_length),
-        part(&body, 0, file.body_length),
+        file.name(),
+        file.body(),
     )
 }
 
-// The call that a line's first letter says.
-pub(crate) fn call(
-    head: Head,
-    statuses: &mut [u8; 256],
-    ids: &mut [u32; 256],
-    keys: &mut [u32; 256],
-    marks: &mut [[u8; 4]; 256],
-    rows: &mut [[u16; 50]; 256],
-    numbers: &mut [u32; 64],
-    approved: &mut [u16; 64],
-    loads: &mut [[u16; 50]; 64],
-    line: &[u8],
-) -> Reply {
-    let kind = byte_at(line, 0);
-    if kind == b'a' {
-        return actor(head, line);
+// The call that a line's first letter says, if it is one.
+fn reply(book: &mut Book, line: &[u8]) -> Option<Reply> {
+    match byte_at(line, 0) {
+        b'a' => Some(actor(book, line)),
+        b'c' => Some(category(book, line)),
+        b't' => Some(to(book, line)),
+        b'l' => Some(load(book, line)),
+        b'f' | b'n' | b'b' => Some(file(book, line)),
+        _ => None,
     }
-    if kind == b'c' {
-        return category(head, line);
-    }
-    if kind == b't' {
-        return to(head, line);
-    }
-    if kind == b'l' {
-        return load(head, numbers, approved, loads, line);
-    }
-    file(
-        head, statuses, ids, keys, marks, rows, &*numbers, &*approved, &*loads, line,
-    )
+}
+
+// Makes it, and gives its answer. A line that asks, tells or is a title makes none.
+pub(crate) fn call(book: &mut Book, line: &[u8]) -> Option<Result<Answer, Refusal>> {
+    let reply = reply(book, line)?;
+    book.head = reply.head;
+    Some(reply.answer)
 }

@@ -6,6 +6,7 @@
 #![tactic(auto)]
 
 mod actors;
+mod book;
 mod calls;
 mod files;
 mod powers;
@@ -18,40 +19,26 @@ use running::run_lines;
 use std::rt::Files;
 use std::{fs, io};
 
-// Runs the scenarios of a file. What the lent columns hold at first means nothing.
+// Runs the scenarios of a file.
 fn run(rt: &(impl Files + Print + Alloc), path: &str) -> io::Result<()> {
-    let mut statuses = [7u8; 256];
-    let mut ids = [7u32; 256];
-    let mut keys = [7u32; 256];
-    let mut marks = [[7u8; 4]; 256];
-    let mut rows = [[7u16; 50]; 256];
-    let mut numbers = [7u32; 64];
-    let mut approved = [7u16; 64];
-    let mut loads = [[7u16; 50]; 64];
     let text = fs::read(rt, path)?;
-    run_lines(
-        rt,
-        &mut statuses,
-        &mut ids,
-        &mut keys,
-        &mut marks,
-        &mut rows,
-        &mut numbers,
-        &mut approved,
-        &mut loads,
-        text.as_slice(),
-    )
+    run_lines(rt, text.as_slice())
 }
 
 fn main(rt: HostRuntime) -> io::Result<()> {
     actors::put_actors(&rt)?;
-    run(&rt, "guide")?;
-    run(&rt, "edges")?;
-    run(&rt, "filing")?;
-    run(&rt, "calls")?;
-    run(&rt, "full")?;
-    run(&rt, "records")?;
-    run(&rt, "histories")?;
-    run(&rt, "eve")?;
-    run(&rt, "winter")
+    for path in [
+        "guide",
+        "edges",
+        "filing",
+        "calls",
+        "full",
+        "records",
+        "histories",
+        "eve",
+        "winter",
+    ] {
+        run(&rt, path)?;
+    }
+    Ok(())
 }

@@ -2,20 +2,25 @@
 use crate::actors::code_of;
 use crate::words::{date, number, rest, word};
 use calendar::steps_of;
-use notification::forms::six;
+use notification::forms::in_bytes;
 use notification::{Key, Notification};
+use std::array;
 
 // One power at each step below a turn, and another from the turn on.
 #[derive(Clone, Copy)]
 pub(crate) struct Profile {
     first: u32,
-    turn: u32,
+    turn: usize,
     then: u32,
 }
 
 // The step that a word says; without one, the first step past the longest day.
-fn turn_of(word: &[u8]) -> u32 {
-    if word.len() == 0 { 50 } else { number(word) }
+fn turn_of(word: &[u8]) -> usize {
+    if word.is_empty() {
+        50
+    } else {
+        number(word) as usize
+    }
 }
 
 // The profile that a line's words say: a power, and perhaps a step and the power from it on.
@@ -28,28 +33,17 @@ pub(crate) fn profile_of(words: &[u8]) -> Profile {
 }
 
 // The power at a step.
-fn power_at(p: Profile, step: u32) -> u32 {
+fn power_at(p: Profile, step: usize) -> u32 {
     if step < p.turn { p.first } else { p.then }
 }
 
 // The power at a step of a file: 0 past the day's steps.
-fn filed_at(p: Profile, step: u32, steps: u32) -> u16 {
+fn filed_at(p: Profile, step: usize, steps: usize) -> u16 {
     if step < steps {
         (power_at(p, step) % 65536) as u16
     } else {
         0
     }
-}
-
-// The powers of a load, one a step of the longest day.
-fn loaded_powers(p: Profile) -> [u32; 50] {
-    let mut powers = [0u32; 50];
-    let mut k: u32 = 0;
-    while k < 50 {
-        powers[k as usize] = power_at(p, k);
-        k += 1;
-    }
-    powers
 }
 
 // A load: whose, for which day, the approved power, and the powers, as many as the count says.
@@ -58,52 +52,28 @@ pub(crate) struct Load {
     pub actor: [u8; 16],
     pub day: u32,
     pub approved: u32,
-    pub count: u32,
+    pub count: usize,
     pub powers: [u32; 50],
 }
 
-// The load that a line says.
+// The load that a line says, with one power a step of the longest day.
 pub(crate) fn load_of(line: &[u8]) -> Load {
-    let actor = code_of(word(line, 1));
-    let powers = loaded_powers(profile_of(rest(line, 6)));
+    let profile = profile_of(rest(line, 6));
     Load {
-        actor,
+        actor: code_of(word(line, 1)),
         day: date(word(line, 3)),
         approved: number(word(line, 4)),
-        count: number(word(line, 5)),
-        powers,
+        count: number(word(line, 5)) as usize,
+        powers: array::from_fn(|step| power_at(profile, step)),
     }
-}
-
-// The powers of a file.
-fn filed_powers(p: Profile, steps: u32) -> [u16; 50] {
-    let mut powers = [0u16; 50];
-    let mut k: u32 = 0;
-    while k < 50 {
-        powers[k as usize] = filed_at(p, k, steps);
-        k += 1;
-    }
-    powers
-}
-
-// The first powers, as many as there are to be.
-pub(crate) fn first_of(powers: &[u32], n: u32) -> &[u32] {
-    let until = n as usize;
-    if until <= powers.len() {
-        return &powers[0..until];
-    }
-    powers
 }
 
 // The key of a file: ceder, acquirer, category and date.
 fn key_of(words: &[u8]) -> Key {
-    let ceder = code_of(word(words, 0));
-    let acquirer = code_of(word(words, 1));
-    let category = six(word(words, 2));
     Key {
-        ceder,
-        acquirer,
-        category,
+        ceder: code_of(word(words, 0)),
+        acquirer: code_of(word(words, 1)),
+        category: in_bytes(word(words, 2)),
         day: date(word(words, 3)),
     }
 }
@@ -112,6 +82,9 @@ fn key_of(words: &[u8]) -> Key {
 pub(crate) fn noted(words: &[u8], p: Profile) -> Notification {
     let key = key_of(words);
     let steps = steps_of(key.day);
-    let powers = filed_powers(p, steps);
-    Notification { key, steps, powers }
+    Notification {
+        key,
+        steps,
+        powers: array::from_fn(|step| filed_at(p, step, steps as usize)),
+    }
 }
