@@ -5,7 +5,7 @@ ghost use Rattle.reader.specs.Walking.{four_at, six_at, half_hours, Plain, TailS
 
 use calendar::{PLAIN_STEPS, turn_of};
 use lists::bytes::byte_at;
-use lists::numbers::{byte, digit_value};
+use lists::numbers::digit_value;
 
 // The half hours since midnight that a boundary is labelled with.
 pub fn half_hours(steps: u32, at: u32) -> u32
@@ -48,8 +48,7 @@ pub fn four(s: &[u8], a: usize) -> u64
     ensures upper_bound { result < 4294967296 }
     ensures by_index { (i : ℕ) → get_or s.now i 0 < 256 }
 {
-    let low = byte(s[a]) + byte(s[a + 1]) * 256;
-    (low + byte(s[a + 2]) * 65536 + byte(s[a + 3]) * 16777216) as u64
+    u64::from(u32::from_le_bytes([s[a], s[a + 1], s[a + 2], s[a + 3]]))
 }
 
 // Whether the same twelve bytes stand at a place of each text.

@@ -23,7 +23,6 @@ use crate::reading::conclude;
 use crate::tally::Tally;
 use calendar::steps_of;
 use lists::bytes::byte_from;
-use lists::numbers::{least, least_length};
 use notification::forms::in_bytes;
 use notification::{Key, Notification};
 use refusals::trying::refuse_if;
@@ -127,7 +126,7 @@ fn first_bytes(s: &[u8], from: usize) -> [u8; 64]
     requires { from ≤ length s.now }
     ensures { take (length s.now - from) result ≡ take 64 (drop from s.now) }
 {
-    let n = least_length(s.len() - from, HELD as usize);
+    let n = (s.len() - from).min(HELD as usize);
     let first = &s[from..from + n];
     let mut line = [0u8; 64];
     line[..n].copy_from_slice(first);
@@ -140,8 +139,8 @@ fn whole_line(line: [u8; 64], held: u32, piece: &[u8], end: usize) -> WholeLine
     ensures text_value { take (result.length + 1) result.text ≡ gone_on (take held line) piece.now end ++ 10 ∷ [] }
     ensures length_value { (result.length ≡ length (gone_on (take held line) piece.now end)) × (result.length ≤ 64) }
 {
-    let n = least(held, HELD) as usize;
-    let more = least_length(end, HELD as usize - n);
+    let n = held.min(HELD) as usize;
+    let more = end.min(HELD as usize - n);
     let before = &line[..n];
     let after = &piece[..more];
     let mut text = [b'\n'; 65];
@@ -191,8 +190,8 @@ impl FileReader {
         ensures { in_hand result
             ≡ walked (in_hand self) total (with_powers tally powers) (drop from piece.now) }
     {
-        let named = least(self.named, LONGEST_HEADER);
-        let steps = least(self.steps, STEPS);
+        let named = self.named.min(LONGEST_HEADER);
+        let steps = self.steps.min(STEPS);
         let header = &self.header[..named as usize];
         let mut powers = powers;
         let run = take_lines(tally, header, steps, piece, from, &mut powers);
@@ -202,7 +201,7 @@ impl FileReader {
             length: total,
             tally: run.tally,
             powers,
-            held: least_length(piece.len() - run.at, HELD as usize) as u32,
+            held: (piece.len() - run.at).min(HELD as usize) as u32,
             line: first_bytes(piece, run.at),
             ..self
         }
@@ -224,13 +223,13 @@ impl FileReader {
                 ..self
             };
         }
-        let n = least(self.named, LONGEST_HEADER) as usize;
+        let n = self.named.min(LONGEST_HEADER) as usize;
         let line = &whole.text[..whole.length as usize + 1];
         let mut powers = self.powers;
         let run = take_lines(
             self.tally,
             &self.header[..n],
-            least(self.steps, STEPS),
+            self.steps.min(STEPS),
             line,
             0,
             &mut powers,
@@ -262,8 +261,8 @@ impl FileReader {
         refuse_if(self.named < SHORTEST_HEADER, InputRefusal::Name)?;
         let whole = (1 <= self.length) & (self.length <= MOST_BYTES) & (self.held == 0);
         refuse_if(!whole, InputRefusal::Body)?;
-        let n = least(self.named, LONGEST_HEADER) as usize;
+        let n = self.named.min(LONGEST_HEADER) as usize;
         let key = key_of(&self.header[..n], self.day);
-        conclude(key, least(self.steps, STEPS), self.tally, self.powers)
+        conclude(key, self.steps.min(STEPS), self.tally, self.powers)
     }
 }

@@ -100,7 +100,6 @@ pub fn place_of(r: Refusal) -> u32
     ensures { result ≡ place_of r }
 {
     match r {
-        Refusal::Input(_, p) => p,
-        Refusal::State(_, p) => p,
+        Refusal::Input(_, place) | Refusal::State(_, place) => place,
     }
 }

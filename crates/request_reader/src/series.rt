@@ -12,7 +12,6 @@ use crate::runs::{first_step, listed_step, steps_run};
 use crate::step::step_at;
 use crate::tokens::{after_mark, past_blanks};
 use lists::bytes::byte_at;
-use lists::numbers::least;
 use reader::tally::{StepFault, Tally, count, is_over, note};
 use request::labels::hour_label;
 
@@ -46,9 +45,9 @@ fn told_step(s: &[u8], at: usize, t: Tally, steps: u32, powers: &mut [u16; 50]) 
         (record { tally = t; powers = powers.old }) (record { tally = r.tally; powers = powers.new })) }
     ensures no_layout { IfSome result (λ r. r.layout ≡ None) }
 {
-    let k = least(t.lines, steps);
+    let k = t.lines.min(steps);
     let from = hour_label(steps, k);
-    let until = hour_label(steps, least(k + 1, steps));
+    let until = hour_label(steps, (k + 1).min(steps));
     let from_bytes = from.bytes;
     let until_bytes = until.bytes;
     let m = from.len as usize;

@@ -24,13 +24,13 @@ step_at-requires c =
     let u = c.hour_label-until.ensures in (
       c.requires.0,
       ap (every is_label_byte) h.0 ∙ hour_label_lem c.args.steps _,
-      omega (arith, ap length h.0, hour_length c.args.steps c.least-k.result),
+      omega (arith, ap length h.0, hour_length c.args.steps c.min-k.result),
       ap (every is_label_byte) u.0 ∙ hour_label_lem c.args.steps _,
-      omega (arith, ap length u.0, hour_length c.args.steps c.least.result),
+      omega (arith, ap length u.0, hour_length c.args.steps c.min.result),
     )
 
 pub returns-clause-told : goal.returns-clause-told
 returns-clause-told c =
     let a = c.args in
-    next_told a.steps _ _ _ _ a.s.now a.at _ _ _ _ c.least-k.ensures c.least.ensures
+    next_told a.steps _ _ _ _ a.s.now a.at _ _ _ _ c.min-k.ensures c.min.ensures
     c.hour_label-from.ensures.0 c.hour_label-until.ensures.0 c.in_ok-step.ensures c.tell.ensures

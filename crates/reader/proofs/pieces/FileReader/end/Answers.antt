@@ -19,4 +19,4 @@ pub returns : goal.returns
 returns c =
     ended_lines c.args.self (header_long c.args.self _ c.well_formed.0) (line_long c.args.self _ c.well_formed.0) (is_unmet _ _ _ c.in_ok-refuse_if.ensures) _ _ _ _
     (is_unmet _ _ _ c.in_ok-refuse_if-2.ensures)
-    c.least-n.ensures c.least.ensures c.key_of-key.ensures c.conclude.ensures
+    c.min-n.ensures c.min.ensures c.key_of-key.ensures c.conclude.ensures

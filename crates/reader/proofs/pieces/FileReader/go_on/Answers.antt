@@ -29,7 +29,7 @@ returns-then-piece-end c =
 pub returns : goal.returns
 returns c =
     let a = c.args in
-    line_ended a.self (header_long a.self _ c.well_formed.0) _ _ c.least-n.ensures c.least.ensures a.total a.piece.now
+    line_ended a.self (header_long a.self _ c.well_formed.0) _ _ c.min-n.ensures c.min.ensures a.total a.piece.now
     c.whole_line-whole.result.text
     c.byte_from-end.result c.whole_line-whole.result.length c.byte_from-end.ensures c.whole_line-whole.ensures.text_value _ _
     c.if-piece-end.false
