@@ -1,6 +1,6 @@
 -- What the writer answers, test by test, and what it leaves in the buffer.
-use mathlib.Core.Path.{◌≡◌, sym, ◌∙◌}
-use mathlib.Core.Bool.{Bool, true, not, ◌&&◌}
+use mathlib.Core.Path.{◌≡◌, sym}
+use mathlib.Core.Bool.{true}
 use mathlib.Core.List.{List, [], ◌∷◌, ◌++◌}
 use Prim.Native.Nat.{ℕ, ◌≤◌}
 use native.Mathlib.Omega.{arith}
@@ -13,8 +13,7 @@ use Rattle.refusals.specs.Tests.{pass, state}
 use Rattle.refusals.specs.declared.Refusal.{Refusal}
 use Rattle.refusals.specs.declared.StateRefusal.TheVariants.{Full}
 use Rattle.refusals.proofs.Tests.{pass_all}
-use Rattle.notification.specs.Forms.{is_code, all_zero}
-use Rattle.notification.specs.Writing.{formed, ranged, written}
+use Rattle.notification.specs.Writing.{ranged, written}
 use Rattle.writer.specs.Placing.{Placed}
 use Rattle.writer.proofs.Placed.{placed_first}
 use Rattle.request.specs.Moments.{in_time}

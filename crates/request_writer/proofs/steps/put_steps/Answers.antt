@@ -1,5 +1,4 @@
 -- `steps::put_steps` meets its contract: so far as it has come, the steps are put.
-use native.Mathlib.Omega.{arith}
 use Rattle.writer.specs.Placing.{step_texts}
 use Rattle.writer.proofs.Placed.{placed_none, placed_length}
 use Rattle.writer.proofs.StepTexts.{step_power, step_room, step_placed, texts_placed}
