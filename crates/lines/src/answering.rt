@@ -64,6 +64,7 @@ pub fn answer_lines(
     let mut out = out;
     let mut given = given;
     let mut wants = Wants::Input;
+    // By hand: each turn goes on where its line ended.
     while let Some(stop) = line_end(input, at) {
         if !has_room(&*output, out) {
             wants = Wants::Room;
