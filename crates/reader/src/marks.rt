@@ -76,8 +76,8 @@ fn ended(b: u8, v: u32, n: usize) -> Option<(u16, usize)>
     }
 }
 
-// The power, `;` and LF that six bytes begin with, and how many bytes the line has with the twelve of its labels. Not by
-// `power_of`: on each way it is known here which byte has to be LF, and none is looked up by its place.
+// The power, `;` and LF that six bytes begin with, and how many bytes the line has with the twelve of its labels. Not
+// by `power_of`: on each way it is known here which byte has to be LF, and none is looked up by its place.
 fn tail_of(a: u8, b: u8, c: u8, d: u8, e: u8, f: u8) -> Option<(u16, usize)>
     ensures { TailSays a b c d e f result }
 {

@@ -1,5 +1,5 @@
 -- What the record call shows: the codes and the category of a record, the record of an id, and what refuses to show it.
-use Rattle.std.specs.Prelude.{is_none, Ok, unwrap_or, Err, None, Option, Some, is_some}
+use Rattle.std.specs.Prelude.{is_none, Ok, unwrap_or, Err, None, Option, Some}
 use mathlib.Core.Path.{◌≡◌, refl, sym, ap, ◌∙◌}
 use mathlib.Core.Bool.{true, false, cond, not, true≢false}
 use mathlib.Core.List.{List, [], ◌∷◌, map}
@@ -10,10 +10,10 @@ use lib.ListN.{length, get_or, take, replicate, get_or-eq_default, get_or-map}
 use lib.Seq.{get_or-take}
 use borrow.Author.Tests.{lt-ltb, le-ltb}
 use Rattle.calendar.specs.Steps.{steps_of}
-use Rattle.refusals.specs.Tests.{Test, state, first_met, Verdict, pass}
+use Rattle.refusals.specs.Tests.{Test, state, first_met, pass}
 use Rattle.refusals.specs.declared.Refusal.{Refusal}
 use Rattle.refusals.specs.declared.StateRefusal.TheVariants.{ActorUnknown, NoRecord, NotAsker}
-use Rattle.refusals.proofs.Tests.{pass_all, tried_all, tried_first}
+use Rattle.refusals.proofs.Tests.{pass_all}
 use Rattle.notification.specs.Forms.{six_bytes, category_text}
 use Rattle.ledger.specs.Ledger.{Rec, actor_at}
 use Rattle.ledger.specs.Filing.{nobody}

@@ -21,6 +21,16 @@ module _ {E : Type 0} (into : E → Refusal) where
   goes_on true f u rest e = let z : ◌≡◌ {A = ℕ} 0 1 = cc in absurd (omega arith)
   goes_on false f u rest e = refl
 
+-- what is told of the test
+module _ {E : Type 0} where
+  pub refused_by : (met : Bool) (f g : E) → ◌≡◌ {A = Result ⊤ E} (Err g) (cond met (Err f) (Ok tt)) → (met ≡ true) × (g ≡ f)
+  refused_by true f g e = let k : g ≡ f = cc in (refl, k)
+  refused_by false f g e = let z : ◌≡◌ {A = ℕ} 0 1 = cc in absurd (omega arith)
+
+  pub passed_by : (met : Bool) (f : E) (u : ⊤) → ◌≡◌ {A = Result ⊤ E} (Ok u) (cond met (Err f) (Ok tt)) → met ≡ false
+  passed_by true f u e = let z : ◌≡◌ {A = ℕ} 0 1 = cc in absurd (omega arith)
+  passed_by false f u e = refl
+
 -- a count has room below a number of places where what counts of it has
 pub room_is : (n m : ℕ) → ltb (min n m) m ≡ ltb n m
 room_is n m =

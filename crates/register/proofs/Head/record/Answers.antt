@@ -1,11 +1,11 @@
 -- `Head::record` meets its contract: the three tests, then the record of the id.
-use mathlib.Core.Path.{◌≡◌, sym, ◌∙◌}
+use mathlib.Core.Path.{sym, ◌∙◌}
 use Prim.Native.Nat.{◌<◌}
 use Rattle.std.proofs.lemmas.Result.{err_from_is_err_and}
-use Rattle.refusals.specs.Tests.{state, first_met, pass}
+use Rattle.refusals.specs.Tests.{state}
 use Rattle.tables.specs.Tables.{Columns, columns}
 use Rattle.register.proofs.Trying.{refuses, goes_on, none_told}
-use Rattle.register.proofs.ShownRecords.{record_tried, found_below, shown_refused, shown_found}
+use Rattle.register.proofs.ShownRecords.{found_below, shown_refused, shown_found}
 use Rattle.register.proofs.Head.record.Goals as goal
 use Rattle.register.proofs.Head.record.Goals.{Start, After-unwrap_or-i}
 
