@@ -186,7 +186,7 @@ impl FileReader {
         piece: &[u8],
         from: usize,
     ) -> FileReader
-        requires { (50 ≤ self.named) × (from ≤ length piece.now) }
+        requires { from ≤ length piece.now }
         ensures { in_hand result
             ≡ walked (in_hand self) total (with_powers tally powers) (drop from piece.now) }
     {
@@ -209,7 +209,6 @@ impl FileReader {
 
     // A piece more, after a line in hand.
     fn go_on(self, total: u32, piece: &[u8]) -> FileReader
-        requires { 50 ≤ self.named }
         ensures { in_hand result
             ≡ continued (in_hand self) total piece.now (byte_from 10 piece.now 0) }
     {
