@@ -97,9 +97,6 @@ module _ (text line : List ℕ) (k : ℕ) (e : take (k + 1) text ≡ line ++ 10 
   pub text_count : k + 1 ≡ length (take (k + 1) text)
   text_count = let h = ap length e in omega (arith, length-append line (10 ∷ []))
 
-  pub text_inside : k + 1 ≤ length text
-  text_inside = omega (arith, text_count, length-take (k + 1) text)
-
 -- ---- a piece more
 
 module _ (self : FileReader) (l : length self.header ≡ 51) (n s : ℕ) (a : n ≡ min self.named 51) (b : s ≡ min self.steps 50) where

@@ -47,7 +47,7 @@ const STEPS: u32 = 50;
 
 // A file being read. Of the name: the day, its steps, how many bytes the header's line has with its LF (0 where the
 // name is none), and these bytes. Of the body: how many bytes came, what the whole lines have shown, the powers, and
-// the beginning of the line in hand, with how many bytes it has.
+// the beginning of the line in hand, with how many bytes it has. C holds it: so lengths stand beside bytes.
 #[repr(C)]
 #[derive(Clone, Copy)]
 pub struct FileReader {

@@ -11,7 +11,8 @@ use ledger::Actor;
 // The places for actors.
 pub const ACTORS: u32 = 8;
 
-// How many actors there are, and who; places past the count mean nothing.
+// How many actors there are, and who; places past the count mean nothing. It stands in C's layout, so that it is no
+// generic table, which the categories could share.
 #[repr(C)]
 #[derive(Clone, Copy)]
 pub struct Actors {
