@@ -21,7 +21,7 @@ pub fn alike(a: &[u8], b: &[u8]) -> bool
 
 // Whether a header's line and its LF stand at a place of a text: looked at without searching the line's end.
 pub(crate) fn is_headed(header: &[u8], body: &[u8], from: usize) -> bool
-    requires { (50 ≤ length header.now) × (length header.now ≤ 51) × (from ≤ length body.now) }
+    requires { from ≤ length body.now }
     ensures { result ≡ starts_with header.now (drop from body.now) }
 {
     body[from..].starts_with(header)

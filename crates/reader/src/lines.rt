@@ -35,7 +35,7 @@ fn rest_start(s: &[u8], from: usize) -> usize
 
 // The name's header, where it comes first.
 fn take_header(t: FileTally, header: &[u8], body: &[u8], from: usize) -> Run<FileTally>
-    requires { (50 ≤ length header.now) × (length header.now ≤ 51) × (from ≤ length body.now) }
+    requires { from ≤ length body.now }
     ensures tally_value { result.tally
         ≡ record {
           header = headed_by header.now t.header (drop from body.now);
@@ -84,7 +84,8 @@ fn pass_lines(t: FileTally, body: &[u8], from: usize) -> Run<FileTally>
 }
 
 // A text's lines from a place on, each ended by LF, one after another, and where the unfinished line begins. The
-// header's line that the name asks for is given with its LF.
+// header's line that the name asks for is given with its LF. A text and a place in it, here and below, and not the rest of
+// the text: what is given back is a place of the same text.
 pub(crate) fn take_lines(
     t: FileTally,
     header: &[u8],
@@ -93,8 +94,7 @@ pub(crate) fn take_lines(
     from: usize,
     powers: &mut [u16; 50],
 ) -> Run<FileTally>
-    requires { (50 ≤ length header.now) × (length header.now ≤ 51) × (steps ≤ places)
-        × (from ≤ length body.now) }
+    requires { (steps ≤ places) × (from ≤ length body.now) }
     ensures powers_after { with_powers result.tally powers.new
         ≡ take_text header.now steps (with_powers t powers.old) (drop from body.now) }
     ensures body_value { drop result.at body.now

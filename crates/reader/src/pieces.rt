@@ -47,7 +47,7 @@ const STEPS: u32 = 50;
 
 // A file being read. Of the name: the day, its steps, how many bytes the header's line has with its LF (0 where the
 // name is none), and these bytes. Of the body: how many bytes came, what the whole lines have shown, the powers, and
-// the beginning of the line in hand, with how many bytes it has.
+// the beginning of the line in hand, with how many bytes it has. C holds it: so lengths stand beside bytes.
 #[repr(C)]
 #[derive(Clone, Copy)]
 pub struct FileReader {
@@ -186,7 +186,7 @@ impl FileReader {
         piece: &[u8],
         from: usize,
     ) -> FileReader
-        requires { (50 ≤ self.named) × (from ≤ length piece.now) }
+        requires { from ≤ length piece.now }
         ensures { in_hand result
             ≡ walked (in_hand self) total (with_powers tally powers) (drop from piece.now) }
     {
@@ -209,7 +209,6 @@ impl FileReader {
 
     // A piece more, after a line in hand.
     fn go_on(self, total: u32, piece: &[u8]) -> FileReader
-        requires { 50 ≤ self.named }
         ensures { in_hand result
             ≡ continued (in_hand self) total piece.now (byte_from 10 piece.now 0) }
     {

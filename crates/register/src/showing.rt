@@ -1,4 +1,4 @@
-// A record by its id, shown to an actor who is a party to it.
+// A record by its id, shown to an actor who is a party to it. Each column is a parameter of its own, as C lends them.
 ghost use Rattle.std.specs.Prelude.{◌≡◌, List, ℕ, ◌<◌};
 ghost use Rattle.notification.specs.Forms.{six_bytes, category_text};
 ghost use Rattle.ledger.specs.Asking.{code_at, category_of, shown, ask_record};

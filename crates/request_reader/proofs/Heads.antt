@@ -1,17 +1,15 @@
 -- The members before the steps, one after another: where each is found, the place of its value among all tokens is known.
-use mathlib.Core.Path.{◌≡◌, sym, ap, subst, ◌∙◌}
+use mathlib.Core.Path.{◌≡◌, sym, ap, ◌∙◌}
 use mathlib.Core.Bool.{Bool, true, false, ◌&&◌}
 use mathlib.Core.List.{List, [], ◌∷◌, ◌++◌}
 use Prim.Native.Nat.{ℕ, ◌+◌, ◌<◌, ◌≤◌}
 use native.Mathlib.Omega.{arith}
-use lib.Dec.{leb, ltb, eqb}
+use lib.Dec.{leb, eqb}
 use lib.ListN.{length, get_or, drop}
-use lib.Seq.{get_or-drop}
 use borrow.Author.Tests.{lt-leb, le-leb, leb-true, eqb-true, eq-eqb}
 use Rattle.lists.specs.Searches.{every}
 use Rattle.lists.proofs.Tests.{by_test, true_false, and_left}
 use Rattle.notification.specs.Forms.{is_code, is_category, six_bytes}
-use Rattle.reader.specs.Walking.{starts_with}
 use Rattle.request.specs.Tokens.{quoted, inside, tokens, is, quoted_by}
 use Rattle.request.specs.Objects.{ceder_name, acquirer_name, origin_name, category_name, day_name, submitted_name}
 use Rattle.request.specs.Moments.{moment_in, is_moment_text, is_day_text}

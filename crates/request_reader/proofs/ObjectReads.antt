@@ -1,14 +1,14 @@
 -- What the reader finds is what reading the object comes to: the members before the steps and the steps make the object, and 5 to 8 of the
 -- steps follow.
 use mathlib.Core.Path.{◌≡◌, refl, sym, ap, ◌∙◌}
-use mathlib.Core.Bool.{Bool, true, false, false≢true, cond, ◌&&◌}
+use mathlib.Core.Bool.{Bool, true, false, false≢true, ◌&&◌}
 use mathlib.Core.List.{List, [], ◌∷◌, ◌++◌, append_assoc, map}
 use Prim.Native.Nat.{ℕ, zero, suc, ◌+◌, ◌-◌, ◌/◌, ◌<◌, ◌≤◌}
 use native.Mathlib.Nat.{zero-add}
 use native.Mathlib.Omega.{arith}
 use lib.Dec.{ltb, eqb}
 use lib.ListN.{length, get_or, drop, replicate, length-drop, drop_of_length-le}
-use lib.Seq.{drop-cons, get_or-drop}
+use lib.Seq.{drop-cons}
 use borrow.Author.Tests.{lt-ltb, le-ltb, le-leb, lt-leb}
 use Rattle.lists.specs.Searches.{first_from}
 use Rattle.lists.proofs.Tests.{by_test, and_left, and_right}
@@ -29,9 +29,9 @@ use Rattle.notification.specs.declared.Key.{Key}
 use Rattle.notification.specs.declared.Notification.{Notification}
 use Rattle.reader.specs.Folding.{Taken, no_steps, outcome_of, judgement}
 use Rattle.reader.proofs.Series.{verdict_from, powers_from, told, judged_told}
-use Rattle.request.specs.Tokens.{quoted, inside, tokens_from, tokens, fits, is, quoted_by}
+use Rattle.request.specs.Tokens.{inside, tokens_from, tokens, fits, is, quoted_by}
 use Rattle.request.specs.Moments.{moment_in, is_day_text}
-use Rattle.request.specs.Objects.{Step, category_name, status_name, further, parted, step_of, series_of, object_of}
+use Rattle.request.specs.Objects.{Step, further, parted, step_of, series_of, object_of}
 use Rattle.request.specs.Writing.{object_most}
 use Rattle.request.specs.Reading.{step_test, value_tests, step_count, is_object, text_at, steps_in, steps_read, day_read, has_labels, ended, no_step, bad_step, first_bad, step_refusal, powers_of, object_tests, request_in, read_object}
 use Rattle.request.specs.declared.Moment.{Moment}

@@ -1,6 +1,6 @@
 -- What stands between two places of a text, whatever stands after it: nothing, a blank, a byte by itself or a quoted text. What stands between
 -- three places, one after another, stands between the first and the last.
-use mathlib.Core.Path.{◌≡◌, refl, sym, ap, ◌∙◌}
+use mathlib.Core.Path.{◌≡◌, sym, ap, ◌∙◌}
 use mathlib.Core.Bool.{true, false}
 use mathlib.Core.List.{List, [], ◌∷◌, ◌++◌, append_assoc}
 use Prim.Native.Nat.{ℕ, zero, suc, ◌+◌, ◌-◌, ◌<◌, ◌≤◌}
@@ -11,7 +11,7 @@ use lib.Seq.{take-add, drop-drop, drop-cons, get_or-take, get_or-drop}
 use Rattle.lists.proofs.Searches.{every_at}
 use Rattle.reader.specs.Walking.{starts_with}
 use Rattle.reader.proofs.Starts.{starts_true}
-use Rattle.request.specs.Tokens.{is_blank, tokens, is}
+use Rattle.request.specs.Tokens.{is_blank, tokens}
 use Rattle.request_reader.specs.Walking.{Past, Passed, RunTo, part, is_mark, is_quoted}
 use Rattle.request_reader.proofs.Fronts.{tokens_blank, tokens_mark}
 use Rattle.request_reader.proofs.Walks.{mark_inside, stands_inside, text_long, quoted_first}

@@ -1,23 +1,22 @@
 -- The reader's walk along the steps: what is kept after a step's power and the tokens from there on say together what the whole series says
 -- from its beginning on.
-use Rattle.std.specs.Prelude.{Result, Ok, Err}
+use Rattle.std.specs.Prelude.{Result}
 use Rattle.reader.specs.declared.tally.StepFault.{StepFault}
-use Rattle.reader.specs.declared.tally.StepFault.TheVariants.{NoLabels, NoPower}
 use mathlib.Core.Path.{◌≡◌, refl, sym, ap, ◌∙◌}
 use mathlib.Core.Bool.{Bool, true, false, not, ◌&&◌}
 use mathlib.Core.List.{List, [], ◌∷◌, ◌++◌}
-use Prim.Native.Nat.{ℕ, suc, ◌+◌, ◌-◌, ◌<◌, ◌≤◌, min}
+use Prim.Native.Nat.{ℕ, suc, ◌+◌, ◌<◌, ◌≤◌, min}
 use native.Mathlib.Omega.{arith}
 use lib.Dec.{leb, ltb, eqb}
-use lib.ListN.{length, get_or, drop, length-drop, drop_of_length-le, take-append-drop}
-use lib.Seq.{drop-cons, drop-drop}
+use lib.ListN.{length, get_or, drop, length-drop, drop_of_length-le}
+use lib.Seq.{drop-cons}
 use borrow.Author.Tests.{ltb-true, ltb-false, leb-true, leb-false}
 use Rattle.std.specs.Prelude.{Option, Some, None, IfSome, MatchOption}
 use Rattle.std.specs.Option.{ForSome}
 use Rattle.std.specs.Bool.{then_some}
 use Rattle.std.proofs.lemmas.Option.{none-some}
 use Rattle.lists.specs.Searches.{same}
-use Rattle.lists.proofs.Tests.{by_test, true_false, or_right}
+use Rattle.lists.proofs.Tests.{by_test, or_right}
 use Rattle.notification.specs.Forms.{is_digit}
 use Rattle.reader.specs.declared.tally.Tally.{Tally}
 use Rattle.reader.specs.Folding.{Taken, is_over, counted, judged, step_taken, take_all}

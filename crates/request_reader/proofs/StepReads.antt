@@ -1,7 +1,6 @@
 -- A step, member by member: its labels are the ones wanted or others, and its digits are a power or not.
 use Rattle.std.specs.Prelude.{Option, Some, None}
-use Rattle.std.specs.Prelude.{Result, Ok, Err}
-use Rattle.reader.specs.declared.tally.StepFault.{StepFault}
+use Rattle.std.specs.Prelude.{Ok, Err}
 use Rattle.reader.specs.declared.tally.StepFault.TheVariants.{NoLabels, NoPower}
 use mathlib.Core.Path.{◌≡◌, refl, sym, ap, ◌∙◌}
 use mathlib.Core.Bool.{Bool, true, false, false≢true, cond, not, ◌&&◌}
@@ -25,7 +24,7 @@ use Rattle.request.specs.Reading.{is_label_byte, is_run}
 use Rattle.request.specs.Objects.{from_name, until_name, power_name}
 use Rattle.request.proofs.Unquoted.{label_unquoted}
 use Rattle.request_reader.specs.Walking.{starts, Past, Walked, Missing, Opened, RunTo, first_token, framed, between}
-use Rattle.request_reader.specs.Steps.{label_tests, LabelAt, power_of, power_tests, PowerAt, front_tests, step_in, said_of, said_by, StepAt, FiveAt}
+use Rattle.request_reader.specs.Steps.{label_tests, LabelAt, power_of, power_tests, PowerAt, front_tests, said_of, said_by, StepAt, FiveAt}
 use Rattle.request_reader.proofs.Walks.{starts_one, walked_on, missing_on, missing_first, token_after}
 use Rattle.request.proofs.Fits.{inside_quoted}
 use Rattle.request_reader.proofs.Values.{by_none, value_found, value_framed, value_tokens, opened_token}

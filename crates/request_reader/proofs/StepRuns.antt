@@ -1,8 +1,7 @@
 -- The reader's walk from one step's power to the next: what is kept there and the tokens after it say what was said before it.
-use Rattle.std.specs.Prelude.{Option, Some, None}
-use Rattle.std.specs.Prelude.{Result, Ok, Err}
+use Rattle.std.specs.Prelude.{Some}
+use Rattle.std.specs.Prelude.{Result, Ok}
 use Rattle.reader.specs.declared.tally.StepFault.{StepFault}
-use Rattle.reader.specs.declared.tally.StepFault.TheVariants.{NoLabels, NoPower}
 use mathlib.Core.Path.{◌≡◌, refl, sym, ap, ◌∙◌}
 use mathlib.Core.Bool.{true}
 use mathlib.Core.List.{List, [], ◌∷◌, ◌++◌}

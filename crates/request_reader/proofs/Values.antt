@@ -9,7 +9,7 @@ use native.Mathlib.Omega.{arith}
 use lib.Dec.{eqb, ltb}
 use lib.ListN.{length, get_or, take, drop, length-append, take-append-drop}
 use lib.Seq.{drop-cons, drop-drop, get_or-drop, take_at, get_or-append_seam}
-use borrow.Author.Tests.{ltb-true, ltb-false, lt-ltb, le-ltb, eqb-true, not-true}
+use borrow.Author.Tests.{ltb-false, lt-ltb, le-ltb, eqb-true, not-true}
 use Rattle.lists.specs.Searches.{every, same}
 use Rattle.std.specs.Prelude.{Option, Some, None}
 use Rattle.lists.proofs.Tests.{by_test, true_false, and_left, and_right, and_true}

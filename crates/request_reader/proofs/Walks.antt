@@ -7,7 +7,7 @@ use native.Mathlib.Nat.{add-zero}
 use native.Mathlib.Numerals.{add-one}
 use native.Mathlib.Omega.{arith}
 use lib.Dec.{eqb, ltb}
-use lib.ListN.{length, get_or, drop, length-drop, length-append, take-append-drop, drop_of_length-le, get_or-eq_default}
+use lib.ListN.{length, get_or, drop, length-drop, length-append, take-append-drop, get_or-eq_default}
 use lib.Seq.{drop-cons, drop-drop, get_or-drop}
 use borrow.Author.Tests.{ltb-true, ltb-false, eq-eqb, not-true}
 use Rattle.lists.specs.Searches.{every, same}
@@ -16,11 +16,11 @@ use Rattle.lists.proofs.Searches.{same_refl, same_true}
 use Rattle.notification.specs.Forms.{is_digit}
 use Rattle.reader.specs.Walking.{starts_with}
 use Rattle.reader.proofs.Starts.{starts_true, starts_long}
-use Rattle.request.specs.Tokens.{is_blank, quote, quoted, inside, tokens_from, tokens, is}
+use Rattle.request.specs.Tokens.{is_blank, quote, quoted, inside, tokens, is}
 use Rattle.request.proofs.Fits.{inside_quoted}
 use Rattle.std.specs.Prelude.{Option, Some, None}
 use Rattle.request_reader.specs.Walking.{starts, Past, Walked, WalkSays, Missing, first_token, is_mark, is_plain, is_quoted}
-use Rattle.request_reader.proofs.Fronts.{tokens_blank, tokens_mark, tokens_quoted, first_stands}
+use Rattle.request_reader.proofs.Fronts.{tokens_mark, tokens_quoted, first_stands}
 
 -- ---- a text at a place
 

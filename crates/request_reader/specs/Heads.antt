@@ -5,7 +5,6 @@ use Rattle.request.specs.Tokens.{quoted, tokens, is, quoted_by}
 use Rattle.request.specs.Moments.{moment_in, is_moment_text, is_day_text}
 use Rattle.request.specs.Objects.{ceder_name, acquirer_name, origin_name, category_name, day_name, submitted_name, status_name, created, series_name}
 use Rattle.request.specs.Reading.{text_at}
-use Rattle.request.specs.declared.Moment.{Moment}
 use Rattle.request_reader.specs.Walking.{Walked, member_tests, part}
 use Rattle.request_reader.specs.declared.head.Parties.{Parties}
 use Rattle.request_reader.specs.declared.head.Terms.{Terms}

@@ -37,10 +37,8 @@ pub(crate) fn steps_length(steps: u32, powers: &[u16]) -> usize
     ensures { result ≡ length (step_texts (marked_step steps) 0 (take steps powers.now)) }
 {
     let mut sum: usize = 0;
-    let mut k: u32 = 0;
-    while k < steps {
+    for k in 0..steps {
         sum += step_length(steps, k, powers[k as usize]);
-        k += 1;
     }
     sum
 }
@@ -98,10 +96,8 @@ pub(crate) fn put_steps(buffer: &mut [u8], at: usize, steps: u32, powers: &[u16]
         buffer.new result }
 {
     let mut next = at;
-    let mut k: u32 = 0;
-    while k < steps {
+    for k in 0..steps {
         next = put_step(&mut *buffer, next, steps, k, powers[k as usize]);
-        k += 1;
     }
     next
 }

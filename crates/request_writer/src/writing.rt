@@ -8,9 +8,9 @@ use crate::members::{put_actors, put_terms};
 use crate::moments::is_timed;
 use crate::steps::{put_steps, steps_length};
 use notification::forms::is_code;
-use refusals::trying::{try_input, try_state};
-use refusals::{InputRefusal, StateRefusal, Verdict};
-use request::{Request, RequestWritten};
+use refusals::trying::refuse_if;
+use refusals::{InputRefusal, Refusal, StateRefusal};
+use request::Request;
 use writer::checks::{category_length, is_formed, is_ranged, is_zero};
 use writer::placing::put_text;
 
@@ -31,20 +31,19 @@ fn object_length(r: Request) -> usize
 
 // What writing comes to, by the length of the buffer: 9, 10, 8 and 36 in this order. Only a request that passes the
 // first three has a text whose length 36 can be tried by.
-fn write_verdict(r: Request, buffer: usize) -> Verdict
+#[tactic(auto, unfolding(request::specs::Writing::request_verdict))]
+fn write_verdict(r: Request, buffer: usize) -> Result<(), Refusal>
     ensures { result ≡ request_verdict r buffer }
 {
     let n = r.notification;
     let origin = r.origin;
     let formed = is_formed(n.key) & is_code(&origin);
-    let v = try_input(Verdict::Pass, !formed, InputRefusal::Form);
+    refuse_if(!formed, InputRefusal::Form)?;
     let timed = is_ranged(n) & is_timed(r.moment);
-    let v = try_input(v, !timed, InputRefusal::Range);
-    let v = try_input(v, is_zero(n), InputRefusal::Zeros);
-    if let Verdict::No(f) = v {
-        return Verdict::No(f);
-    }
-    try_state(Verdict::Pass, buffer < object_length(r), StateRefusal::Full)
+    refuse_if(!timed, InputRefusal::Range)?;
+    refuse_if(is_zero(n), InputRefusal::Zeros)?;
+    refuse_if(buffer < object_length(r), StateRefusal::Full)?;
+    Ok(())
 }
 
 // Puts a request's object.
@@ -62,17 +61,12 @@ fn put_object(buffer: &mut [u8], r: Request) -> usize
 
 // Writes a request's object, without blanks, into a lent buffer, the rest untouched, and gives its length. A request
 // that is refused leaves the buffer as it is.
-pub fn write_object(r: Request, buffer: &mut [u8]) -> RequestWritten
+pub fn write_object(r: Request, buffer: &mut [u8]) -> Result<usize, Refusal>
     ensures value { result ≡ request_answer r (length buffer.old) }
     ensures buffer_after { buffer.new ≡ written (request_verdict r (length buffer.old)) (object_text r)
         buffer.old }
 {
-    let verdict = write_verdict(r, buffer.len());
-    match verdict {
-        Verdict::Pass => {
-            let length = put_object(buffer, r);
-            RequestWritten::Length(length)
-        }
-        Verdict::No(f) => RequestWritten::Refused(f),
-    }
+    write_verdict(r, buffer.len())?;
+    let length = put_object(buffer, r);
+    Ok(length)
 }

@@ -18,7 +18,7 @@ pub struct Category {
     pub text: [u8; 6],
 }
 
-// How many categories there are, and which; places past the count mean nothing.
+// How many categories there are, and which; places past the count mean nothing. C holds them, as it does the actors.
 #[repr(C)]
 #[derive(Clone, Copy)]
 pub struct Categories {

@@ -1,14 +1,13 @@
 -- `head::series_from` meets its contract: seven tokens stand there, or one of them is missing.
 use mathlib.Core.Path.{refl, sym, ◌∙◌}
 use mathlib.Core.List.{[], ◌∷◌}
-use native.Mathlib.Omega.{arith}
 use lib.ListN.{take, drop}
 use Rattle.request.specs.Objects.{status_name, created, series_name}
 use Rattle.request.specs.Tokens.{is, quoted}
 use Rattle.request_reader.specs.Walking.{Walked}
 use Rattle.request_reader.specs.Heads.{begin_tests}
 use Rattle.request_reader.proofs.Walks.{comma, colon, bracket, quoted_is, missing_first, missing_amid, walked_on, says_on}
-use Rattle.request_reader.proofs.PlainMembers.{begin_within, plain_begin}
+use Rattle.request_reader.proofs.PlainMembers.{plain_begin}
 use Rattle.request_reader.proofs.head.series_from.Goals as goal
 use Rattle.request_reader.proofs.head.series_from.Goals.{In_ok-first_colon, In_ok-created, In_ok-comma, In_ok-chronique, In_ok-second_colon}
 

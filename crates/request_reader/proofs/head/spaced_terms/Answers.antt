@@ -6,7 +6,6 @@ use Prim.Native.Nat.{ℕ}
 use lib.ListN.{take, drop}
 use Rattle.notification.specs.Forms.{is_category, six_bytes}
 use Rattle.request.specs.Moments.{moment_in, is_moment_text, is_day_text}
-use Rattle.request.specs.declared.Moment.{Moment}
 use Rattle.request.specs.Objects.{category_name, day_name, submitted_name}
 use Rattle.request.specs.Tokens.{is, quoted}
 use Rattle.request_reader.specs.Walking.{Walked, Missing, Valued, value_tests}

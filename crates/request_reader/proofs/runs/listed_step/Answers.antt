@@ -1,6 +1,5 @@
 -- `runs::listed_step` meets its contract: the step has the labels of its place in the list, at the places where it has them.
-use mathlib.Core.Path.{◌≡◌, refl}
-use Prim.Native.Nat.{◌+◌, ◌*◌, ◌<◌}
+use Prim.Native.Nat.{◌+◌, ◌*◌}
 use native.Mathlib.Omega.{arith}
 use Rattle.request_reader.specs.Steps.{LabelEntry, label_list}
 use Rattle.request_reader.proofs.RunStarts.{may_run, listed_entries, listed_next}

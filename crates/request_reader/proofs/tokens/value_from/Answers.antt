@@ -1,8 +1,6 @@
 -- `tokens::value_from` meets its contract: the name, and past a colon.
 use mathlib.Core.List.{[], ◌∷◌}
 use Rattle.request.specs.Tokens.{is}
-use Rattle.std.specs.Prelude.{Option, Some, None}
-use Rattle.request_reader.specs.Walking.{OpenSays, Walked}
 use Rattle.request_reader.proofs.Walks.{missing_first}
 use Rattle.request_reader.proofs.Values.{opened_on}
 use Rattle.request_reader.proofs.tokens.value_from.Goals as goal

@@ -1,5 +1,4 @@
 -- `steps::put_steps` meets its contract: so far as it has come, the steps are put.
-use native.Mathlib.Omega.{arith}
 use Rattle.writer.specs.Placing.{step_texts}
 use Rattle.writer.proofs.Placed.{placed_none, placed_length}
 use Rattle.writer.proofs.StepTexts.{step_power, step_room, step_placed, texts_placed}
@@ -8,27 +7,24 @@ use Rattle.request_writer.proofs.steps.put_steps.Goals as goal
 
 pub loop-k-init : goal.loop-k-init
 unfolding step_texts
-loop-k-init c = (omega arith, placed_none c.args.buffer.now c.args.at)
-
-pub bounds-powers-k : goal.bounds-powers-k
-bounds-powers-k c = omega (arith, c.requires.0.there)
+loop-k-init c = placed_none c.args.buffer.now c.args.at
 
 pub put_step-next-requires : goal.put_step-next-requires
 put_step-next-requires c =
     let l = c.loop-k in
     let h = c.loop-k-test.true in
-    (h, c.requires.0.few, step_power c.args.steps c.args.powers.now c.requires.0 l.k h, step_room (marked_step c.args.steps) c.args.steps c.args.powers.now c.requires.0 l.k h _ _ _ _ l.invariant.1 c.requires.1)
+    (h, c.requires.0.few, step_power c.args.steps c.args.powers.now c.requires.0 l.k h, step_room (marked_step c.args.steps) c.args.steps c.args.powers.now c.requires.0 l.k h _ _ _ _ l.invariant c.requires.1)
 
 pub loop-k-preserved : goal.loop-k-preserved
 loop-k-preserved c =
     let l = c.loop-k in
     let h = c.loop-k-test.true in
-    (omega arith, step_placed (marked_step c.args.steps) c.args.steps c.args.powers.now c.requires.0 l.k h _ _ _ _ l.invariant.1 _ _ c.put_step-next.ensures)
+    step_placed (marked_step c.args.steps) c.args.steps c.args.powers.now c.requires.0 l.k h _ _ _ _ l.invariant _ _ c.put_step-next.ensures
 
 pub shape_of-buffer : goal.shape_of-buffer
-shape_of-buffer c = placed_length c.loop-k.invariant.1
+shape_of-buffer c = placed_length c.loop-k.invariant
 
 pub returns : goal.returns
 returns c =
     let l = c.loop-k in
-    texts_placed (marked_step c.args.steps) c.args.steps c.args.powers.now c.requires.0 _ _ _ _ l.k l.invariant.0 c.loop-k-test.false l.invariant.1
+    texts_placed (marked_step c.args.steps) c.args.steps c.args.powers.now c.requires.0 _ _ _ _ l.k l.auto.k-end c.loop-k-test.false l.invariant

@@ -9,10 +9,7 @@ use Rattle.request_writer.proofs.steps.steps_length.Goals as goal
 
 pub loop-k-init : goal.loop-k-init
 unfolding step_texts
-loop-k-init c = (omega arith, refl)
-
-pub bounds-powers-k : goal.bounds-powers-k
-bounds-powers-k c = omega (arith, c.requires.there)
+loop-k-init c = refl
 
 pub step_length-sum-requires : goal.step_length-sum-requires
 step_length-sum-requires c =
@@ -22,14 +19,14 @@ pub overflow_add-sum : goal.overflow_add-sum
 overflow_add-sum c =
     let l = c.loop-k in
     omega
-    (arith, c.requires.few, sum_fits (marked_step c.args.steps) c.args.steps c.args.powers.now c.requires l.k c.loop-k-test.true 57 (step_most c.args.steps) l.sum c.step_length-sum.result l.invariant.1 c.step_length-sum.ensures)
+    (arith, c.requires.few, sum_fits (marked_step c.args.steps) c.args.steps c.args.powers.now c.requires l.k c.loop-k-test.true 57 (step_most c.args.steps) l.sum c.step_length-sum.result l.invariant c.step_length-sum.ensures)
 
 pub loop-k-preserved : goal.loop-k-preserved
 loop-k-preserved c =
     let l = c.loop-k in
-    (omega arith, sum_more (marked_step c.args.steps) c.args.steps c.args.powers.now c.requires l.k c.loop-k-test.true l.sum c.step_length-sum.result l.invariant.1 c.step_length-sum.ensures)
+    sum_more (marked_step c.args.steps) c.args.steps c.args.powers.now c.requires l.k c.loop-k-test.true l.sum c.step_length-sum.result l.invariant c.step_length-sum.ensures
 
 pub returns : goal.returns
 returns c =
     let l = c.loop-k in
-    sum_all (marked_step c.args.steps) c.args.steps c.args.powers.now c.requires l.sum l.k l.invariant.0 c.loop-k-test.false l.invariant.1
+    sum_all (marked_step c.args.steps) c.args.steps c.args.powers.now c.requires l.sum l.k l.auto.k-end c.loop-k-test.false l.invariant

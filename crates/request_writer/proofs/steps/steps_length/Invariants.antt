@@ -1,13 +1,9 @@
 -- `steps::steps_length` meets its contract: the sum so far is the length of the steps passed.
 use mathlib.Core.Path.{◌≡◌}
-use Prim.Native.Nat.{◌≤◌, ◌-◌}
 use lib.ListN.{length, take}
 use Rattle.writer.specs.Placing.{step_texts}
 use Rattle.request_writer.specs.Pieces.{marked_step}
 use Rattle.request_writer.proofs.steps.steps_length.Given as goal
 
 abbrev pub invariant-loop-k : goal.invariant-loop-k
-invariant-loop-k l = (l.k ≤ l.steps) × (l.sum ≡ length (step_texts (marked_step l.steps) 0 (take l.k l.powers)))
-
-abbrev pub decreases-loop-k : goal.decreases-loop-k
-decreases-loop-k l = l.steps - l.k
+invariant-loop-k l = l.sum ≡ length (step_texts (marked_step l.steps) 0 (take l.k l.powers))
