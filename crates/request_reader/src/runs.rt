@@ -95,26 +95,26 @@ fn plain_next(s: &[u8], at: usize, t: &[u8], i: usize) -> Option<(u16, usize)>
 // The steps after a step's power, as long as a front finds the next one by two labels of a list.
 fn run<F: Fn(usize, usize) -> Option<(u16, usize)>>(
     s: &[u8],
-    from: usize,
-    t: Tally,
+    from: Run<Tally>,
     steps: u32,
     labels: &[u8],
     powers: &mut [u16; 50],
     front: F,
 ) -> Run<Tally>
-    requires known { (from ≤ length s.now) × (steps ≤ places) × (labels.now ≡ label_list) }
+    requires known { (from.at ≤ length s.now) × (steps ≤ places) × (labels.now ≡ label_list) }
     requires fronts { Fronts (λ at i. F.pre front at i) (λ at i r. F.post front at i r) labels.now s.now }
-    ensures onward { Onward steps s.now from (record { tally = t; powers = powers.old })
+    ensures onward { Onward steps s.now from.at (record { tally = from.tally; powers = powers.old })
         result.at (record { tally = result.tally; powers = powers.new }) }
     ensures at_in_bounds { result.at ≤ length s.now }
 {
+    let t = from.tally;
     if is_over(t, steps) | (steps < FEWEST_STEPS) {
-        return Run { tally: t, at: from };
+        return from;
     }
     let mut k = t.lines as usize;
     let stop = run_end(steps, t.lines) as usize;
     let mut i = half_hours(steps, t.lines) as usize * 10;
-    let mut at = from;
+    let mut at = from.at;
     // By hand: how many steps were taken is the answer, which a `for` counts beside its own (tried: two instructions
     // more for each step).
     while k < stop {
@@ -159,22 +159,20 @@ pub(crate) fn steps_run(
     s: &[u8],
     lead: usize,
     layout: Option<Layout>,
-    from: usize,
-    t: Tally,
+    from: Run<Tally>,
     steps: u32,
     labels: &[u8],
     powers: &mut [u16; 50],
 ) -> Run<Tally>
-    requires { (from ≤ length s.now) × (steps ≤ places) × (labels.now ≡ label_list)
+    requires { (from.at ≤ length s.now) × (steps ≤ places) × (labels.now ≡ label_list)
         × ForSome layout (λ l. LaidOut (between_steps ++ before_from) s.now lead l) }
-    ensures onward { Onward steps s.now from (record { tally = t; powers = powers.old })
+    ensures onward { Onward steps s.now from.at (record { tally = from.tally; powers = powers.old })
         result.at (record { tally = result.tally; powers = powers.new }) }
     ensures at_in_bounds { result.at ≤ length s.now }
 {
     let plain = run(
         s,
         from,
-        t,
         steps,
         labels,
         &mut *powers,
@@ -186,7 +184,7 @@ pub(crate) fn steps_run(
     if !is_wide(lead, l) {
         return plain;
     }
-    run(s, plain.at, plain.tally, steps, labels, powers, |at, i| {
+    run(s, plain, steps, labels, powers, |at, i| {
         laid_front(s, at, lead, l, labels, i)
     })
 }
@@ -202,8 +200,8 @@ pub(crate) fn first_step(
 ) -> Option<StepTold>
     requires { (at ≤ length s.now) × (steps ≤ places) × (labels.now ≡ label_list) }
     ensures powers_unchanged { IfNone result (powers.new ≡ powers.old) }
-    ensures next_step { IfSome result (λ r. NextStep steps s.now at r.at
-        (record { tally = t; powers = powers.old }) (record { tally = r.tally; powers = powers.new })) }
+    ensures next_step { IfSome result (λ r. NextStep steps s.now at r.run.at
+        (record { tally = t; powers = powers.old }) (record { tally = r.run.tally; powers = powers.new })) }
     ensures no_layout { IfSome result (λ r. r.layout ≡ None) }
 {
     if is_over(t, steps) | (steps < FEWEST_STEPS) {
@@ -223,8 +221,10 @@ pub(crate) fn first_step(
         ..t
     };
     Some(StepTold {
-        tally,
-        at: at - 2 + n,
+        run: Run {
+            tally,
+            at: at - 2 + n,
+        },
         layout: None,
     })
 }
@@ -240,8 +240,8 @@ pub(crate) fn listed_step(
 ) -> Option<StepTold>
     requires { (at ≤ length s.now) × (steps ≤ places) × (labels.now ≡ label_list) }
     ensures powers_unchanged { IfNone result (powers.new ≡ powers.old) }
-    ensures next_step { IfSome result (λ r. NextStep steps s.now at r.at
-        (record { tally = t; powers = powers.old }) (record { tally = r.tally; powers = powers.new })) }
+    ensures next_step { IfSome result (λ r. NextStep steps s.now at r.run.at
+        (record { tally = t; powers = powers.old }) (record { tally = r.run.tally; powers = powers.new })) }
     ensures laid_out { IfSome result (λ r. IfSome r.layout (λ l. LaidOut before_from s.now at l)) }
 {
     if is_over(t, steps) | (steps < FEWEST_STEPS) {
@@ -261,8 +261,10 @@ pub(crate) fn listed_step(
         ..t
     };
     Some(StepTold {
-        tally,
-        at: layout.power + n,
+        run: Run {
+            tally,
+            at: layout.power + n,
+        },
         layout: Some(layout),
     })
 }

@@ -12,7 +12,7 @@ use crate::runs::{first_step, listed_step, steps_run};
 use crate::step::step_at;
 use crate::tokens::{after_mark, past_blanks};
 use lists::bytes::byte_at;
-use reader::tally::{StepFault, Tally, count, is_over, note};
+use reader::tally::{Run, StepFault, Tally, count, is_over, note};
 use request::labels::hour_label;
 
 // The place of the first step.
@@ -21,8 +21,7 @@ const FIRST_STEP: u32 = 1;
 // What is kept after a step's power, the place after it, and how the step is laid out, where that was looked at.
 #[derive(Clone, Copy)]
 pub struct StepTold {
-    pub tally: Tally,
-    pub at: usize,
+    pub run: Run<Tally>,
     pub layout: Option<Layout>,
 }
 
@@ -41,8 +40,8 @@ fn tell(t: Tally, steps: u32, said: Result<u16, StepFault>, powers: &mut [u16; 5
 // The next step token by token, with the labels of its place in the day.
 fn told_step(s: &[u8], at: usize, t: Tally, steps: u32, powers: &mut [u16; 50]) -> Option<StepTold>
     requires { (at ≤ length s.now) × (1 ≤ steps) × (steps ≤ places) }
-    ensures told { MatchOption result (Missing front_tests s.now at) (λ r. NextStep steps s.now at r.at
-        (record { tally = t; powers = powers.old }) (record { tally = r.tally; powers = powers.new })) }
+    ensures told { MatchOption result (Missing front_tests s.now at) (λ r. NextStep steps s.now at r.run.at
+        (record { tally = t; powers = powers.old }) (record { tally = r.run.tally; powers = powers.new })) }
     ensures no_layout { IfSome result (λ r. r.layout ≡ None) }
 {
     let k = t.lines.min(steps);
@@ -54,8 +53,10 @@ fn told_step(s: &[u8], at: usize, t: Tally, steps: u32, powers: &mut [u16; 50]) 
     let n = until.len as usize;
     let step = step_at(s, at, &from_bytes[..m], &until_bytes[..n])?;
     Some(StepTold {
-        tally: tell(t, steps, step.value, powers),
-        at: step.next,
+        run: Run {
+            tally: tell(t, steps, step.value, powers),
+            at: step.next,
+        },
         layout: None,
     })
 }
@@ -71,8 +72,8 @@ fn next_step(
     powers: &mut [u16; 50],
 ) -> Option<StepTold>
     requires { (at ≤ length s.now) × (1 ≤ steps) × (steps ≤ places) × (labels.now ≡ label_list) }
-    ensures told { MatchOption result (Missing front_tests s.now at) (λ r. NextStep steps s.now at r.at
-        (record { tally = t; powers = powers.old }) (record { tally = r.tally; powers = powers.new })) }
+    ensures told { MatchOption result (Missing front_tests s.now at) (λ r. NextStep steps s.now at r.run.at
+        (record { tally = t; powers = powers.old }) (record { tally = r.run.tally; powers = powers.new })) }
     ensures laid_out { IfSome result (λ r. IfSome r.layout (λ l. LaidOut before_from s.now at l)) }
 {
     if let Some(step) = first_step(s, at, t, steps, labels, &mut *powers) {
@@ -134,16 +135,7 @@ pub(crate) fn take_series(
         let step = next_step(s, at, tally, steps, labels, &mut *powers)?;
         // How the step is laid out after the power of another.
         let layout = if lead < at { step.layout } else { None };
-        let run = steps_run(
-            s,
-            lead,
-            layout,
-            step.at,
-            step.tally,
-            steps,
-            labels,
-            &mut *powers,
-        );
+        let run = steps_run(s, lead, layout, step.run, steps, labels, &mut *powers);
         tally = run.tally;
         lead = run.at;
         let end = after_mark(s, lead, b'}')?;

@@ -5,11 +5,11 @@ ghost use Rattle.lists.specs.Searches.{every, same};
 ghost use Rattle.notification.specs.Forms.{is_digit};
 ghost use Rattle.request.specs.Tokens.{is_blank, quoted_by};
 ghost use Rattle.request.specs.Reading.{is_label_byte};
-ghost use Rattle.request_reader.specs.Walking.{Missing, RunTo, WalkSays, between, framed, is_quoted};
+ghost use Rattle.request_reader.specs.Walking.{Missing, WalkSays, between, framed, is_quoted};
 ghost use Rattle.request_reader.specs.Steps.{LabelAt, PowerAt, StepAt, front_tests, label_tests};
 ghost use Rattle.request_reader.specs.Steps.{power_of, power_tests, said_of};
 
-use crate::tokens::{Found, after_mark, is_framed, value_from};
+use crate::tokens::{Found, after_mark, is_framed, run_to, value_from};
 use crate::words::same_text;
 use lists::bytes::byte_at;
 use notification::forms::is_digit;
@@ -23,30 +23,6 @@ fn is_label_byte(b: u8) -> bool
     (32 <= b) & !(b == b'"') & !(b == b'\\')
 }
 
-// The first place from a place on where no byte of a label stands.
-fn label_run(s: &[u8], from: usize) -> usize
-    requires { from ≤ length s.now }
-    ensures { RunTo is_label_byte s.now from result }
-{
-    let rest = &s[from..];
-    from + rest
-        .iter()
-        .position(|b| !is_label_byte(*b))
-        .unwrap_or(rest.len())
-}
-
-// The first place from a place on where no digit stands.
-fn digit_run(s: &[u8], from: usize) -> usize
-    requires { from ≤ length s.now }
-    ensures { RunTo is_digit s.now from result }
-{
-    let rest = &s[from..];
-    from + rest
-        .iter()
-        .position(|b| !is_digit(*b))
-        .unwrap_or(rest.len())
-}
-
 // The place after a label of any bytes that may stand in one.
 fn label_end(s: &[u8], from: usize) -> Option<usize>
     requires { (from ≤ length s.now) × (is_blank (get_or s.now from 0) ≡ false) }
@@ -55,7 +31,7 @@ fn label_end(s: &[u8], from: usize) -> Option<usize>
     if byte_at(s, from) != b'"' {
         return None;
     }
-    let end = label_run(s, from + 1);
+    let end = run_to(s, from + 1, is_label_byte);
     if byte_at(s, end) != b'"' {
         return None;
     }
@@ -129,7 +105,7 @@ fn power_member(s: &[u8], at: usize, name: &[u8]) -> Option<Found<Option<(u16, u
         (λ p. PowerAt name.now s.now at p.next p.value) }
 {
     let from = value_from(s, at, name)?;
-    let end = digit_run(s, from);
+    let end = run_to(s, from, is_digit);
     if end == from {
         return None;
     }

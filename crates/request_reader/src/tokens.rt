@@ -1,9 +1,9 @@
 // The tokens of an object, one after another: each function is told a place and gives the place after what it looks
 // for, where that stands there.
-ghost use Rattle.std.specs.Prelude.{true, ◌≡◌, [], ◌∷◌, ◌≤◌, length, drop, IfSome};
+ghost use Rattle.std.specs.Prelude.{ℕ, Bool, true, false, ◌≡◌, [], ◌∷◌, ◌≤◌, length, drop, IfSome};
 ghost use Rattle.reader.specs.Walking.{starts_with};
 ghost use Rattle.request.specs.Tokens.{is_blank, is};
-ghost use Rattle.request_reader.specs.Walking.{Past, Passed, WalkSays, OpenSays, is_mark, is_quoted, framed};
+ghost use Rattle.request_reader.specs.Walking.{Past, Passed, RunTo, WalkSays, OpenSays, is_mark, is_quoted, framed};
 
 use crate::words::same_text;
 use lists::bytes::byte_at;
@@ -22,17 +22,23 @@ fn is_blank(b: u8) -> bool
     (b == b' ') | (b == b'\t') | (b == b'\r') | (b == b'\n')
 }
 
+// The first place from a place on where no byte stands that passes a test.
+pub(crate) fn run_to<F: Fn(u8) -> bool>(s: &[u8], from: usize, test: F) -> usize
+    requires { (from ≤ length s.now) × ((b : ℕ) → F.pre test b) }
+    ensures { (p : ℕ → Bool) → p 0 ≡ false → ((b : ℕ) (r : Bool) → F.post test b r → r ≡ p b)
+        → RunTo p s.now from result }
+{
+    let rest = &s[from..];
+    from + rest.iter().position(|b| !test(*b)).unwrap_or(rest.len())
+}
+
 // The first place from a place on where no blank stands.
 pub(crate) fn past_blanks(s: &[u8], at: usize) -> usize
     requires { at ≤ length s.now }
     ensures past { Past s.now at result }
     ensures passed { Passed [] s.now at result }
 {
-    let rest = &s[at..];
-    at + rest
-        .iter()
-        .position(|b| *b != b' ' && !is_blank(*b))
-        .unwrap_or(rest.len())
+    run_to(s, at, |b| b == b' ' || is_blank(b))
 }
 
 // Whether a text stands at a place.

@@ -11,8 +11,8 @@ use ledger::Actor;
 // The places for actors.
 pub const ACTORS: u32 = 8;
 
-// How many actors there are, and who; places past the count mean nothing. C holds them: so the count stands beside the
-// entries. Categories have a struct of their own, since a generic one can hold no array of a type parameter.
+// How many actors there are, and who; places past the count mean nothing. It stands in C's layout, so that it is no
+// generic table, which the categories could share.
 #[repr(C)]
 #[derive(Clone, Copy)]
 pub struct Actors {

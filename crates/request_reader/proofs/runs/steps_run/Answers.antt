@@ -17,6 +17,6 @@ run-requires-clause-fronts c =
 pub returns : goal.returns
 returns c =
     let a = c.args in record {
-      onward = onward_on a.steps a.s.now a.from c.run-plain.result.at c.run.result.at _ _ _ c.run-plain.ensures.onward c.run.ensures.onward;
+      onward = onward_on a.steps a.s.now a.from.at c.run-plain.result.at c.run.result.at _ _ _ c.run-plain.ensures.onward c.run.ensures.onward;
       at_in_bounds = c.run.ensures.at_in_bounds;
     }
