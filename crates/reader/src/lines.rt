@@ -10,11 +10,14 @@ use crate::steps::take_steps;
 use crate::tally::{Run, Tally};
 use lists::bytes::byte_from;
 
+// No line was seen yet.
+pub(crate) const NO_LINE: u32 = 0;
+
 // The header is the name's.
 const NAMES_HEADER: u32 = 1;
 
 // What a file's lines so far have shown: what was found of the header (0: no line yet, 1: it is the name's, 3 and 4:
-// what refuses it), and the steps.
+// what refuses it), and the steps. A number and no enum, as in the tally: it lies in the file reader that C holds.
 #[repr(C)]
 #[derive(Clone, Copy)]
 pub struct FileTally {
@@ -45,7 +48,7 @@ fn take_header(t: FileTally, header: &[u8], body: &[u8], from: usize) -> Run<Fil
         ≡ past_header header.now t.header (drop from body.now) }
     ensures at_in_bounds { result.at ≤ length body.now }
 {
-    if t.header != 0 {
+    if t.header != NO_LINE {
         return Run { tally: t, at: from };
     }
     if !is_headed(header, body, from) {
@@ -69,7 +72,7 @@ fn pass_lines(t: FileTally, body: &[u8], from: usize) -> Run<FileTally>
     ensures at_value { result.at ≡ from + whole_to (drop from body.now) }
 {
     let at = rest_start(body, from);
-    if t.header != 0 {
+    if t.header != NO_LINE {
         return Run { tally: t, at };
     }
     let end = byte_from(body, from, b'\n');

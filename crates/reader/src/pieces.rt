@@ -18,9 +18,9 @@ ghost use Rattle.reader.specs.InHand.{
 };
 
 use crate::keys::name_key;
-use crate::lines::{FileTally, take_lines};
+use crate::lines::{FileTally, NO_LINE, take_lines};
 use crate::reading::conclude;
-use crate::tally::Tally;
+use crate::tally::{NO_FAULT, Tally};
 use calendar::steps_of;
 use lists::bytes::byte_from;
 use notification::forms::in_bytes;
@@ -62,7 +62,7 @@ pub struct FileReader {
     pub header: [u8; 51],
 }
 
-// A line in hand that ends: its bytes and LF, and how many it has without LF.
+// A line in hand that ends: its bytes and LF, and how many it has without LF, since there is no heap for a text.
 #[derive(Clone, Copy)]
 struct WholeLine {
     text: [u8; 65],
@@ -104,10 +104,13 @@ fn fresh(header: [u8; 51], named: u32, day: u32) -> FileReader
 {
     let steps = Tally {
         lines: 0,
-        fault: 0,
+        fault: NO_FAULT,
         place: 0,
     };
-    let tally = FileTally { header: 0, steps };
+    let tally = FileTally {
+        header: NO_LINE,
+        steps,
+    };
     FileReader {
         day,
         steps: steps_of(day),
