@@ -1,7 +1,6 @@
 -- `layouts::layout_at` meets its contract: a mark, a name and a colon stand up to each label and up to the power.
 use mathlib.Core.Path.{refl}
 use Prim.Native.Nat.{◌+◌}
-use native.Mathlib.Omega.{arith}
 use Rattle.request.specs.Tokens.{quoted}
 use Rattle.request.specs.Objects.{from_name, until_name, power_name}
 use Rattle.request_reader.specs.Walking.{Passed}
@@ -53,6 +52,3 @@ returns-clause-laid_out c =
       until_label = c.is_five-2.ensures c.if-not-is_five-2.false;
       to_power = to_power (goal.at.returns-clause-laid_out c).In_ok-power;
     }
-
-pub returns-clause-power_in_bounds : goal.returns-clause-power_in_bounds
-returns-clause-power_in_bounds c = omega (arith, c.in_ok-power.ensures.passed.within)

@@ -35,24 +35,12 @@ returns-in_err-from c =
     rw c.from_residual.ensures
     (missing_first (is (58 ∷ []) ∷ []) (quoted_by is_category ∷ is (44 ∷ []) ∷ []) c.args.s.now c.args.at c.in_err-from.ensures.opened)
 
-pub is_framed-requires : goal.is_framed-requires
-is_framed-requires c = (c.in_ok-from.ensures.passed.within, omega (arith, c.category_length-n.ensures.1))
-
 pub returns-then-not-is_framed : goal.returns-then-not-is_framed
 returns-then-not-is_framed c =
     let from = c.in_ok-from.from in
     let n = c.category_length-n.result in
     part_unframed is_category category_unquoted _ _ from c.in_ok-from.ensures.opened n
     (category-length-said (goal.at.returns-then-not-is_framed c).After-category_length-n) (sym c.is_framed.ensures ∙ c.if-not-is_framed.true)
-
-pub overflow_add-end : goal.overflow_add-end
-overflow_add-end c = omega (arith, framed-within c)
-
-pub overflow_add-end-2 : goal.overflow_add-end-2
-overflow_add-end-2 c = omega (arith, framed-within c)
-
-pub overflow_add-category : goal.overflow_add-category
-overflow_add-category c = omega (arith, framed-within c)
 
 pub slice_bounds-category-end : goal.slice_bounds-category-end
 slice_bounds-category-end c = omega (arith, framed-within c)
@@ -64,9 +52,6 @@ returns-then-not-is_category c =
     part_other is_category category_unquoted _ _ from c.in_ok-from.ensures.opened n
     (category-length-said (goal.at.returns-then-not-is_category c).After-category_length-n) _
     (part_cut _ from n (from + n + 1) refl) (sym c.is_category.ensures ∙ c.if-not-is_category.true)
-
-pub overflow_add-end-3 : goal.overflow_add-end-3
-overflow_add-end-3 c = omega (arith, framed-within (goal.at.overflow_add-end-3 c).Else-not-is_framed)
 
 pub after_mark-requires : goal.after_mark-requires
 after_mark-requires c = (omega (arith, framed-within (goal.at.after_mark-requires c).Else-not-is_framed), comma)

@@ -32,12 +32,6 @@ returns-then-not-is_framed c =
     let from = c.in_ok-from.from in
     part_unframed is_code code_unquoted _ _ from c.in_ok-from.ensures.opened 16 (code_long _ from) (sym c.is_framed.ensures ∙ c.if-not-is_framed.true)
 
-pub overflow_add-code : goal.overflow_add-code
-overflow_add-code c = omega (arith, framed-within c)
-
-pub overflow_add-code-2 : goal.overflow_add-code-2
-overflow_add-code-2 c = omega (arith, framed-within c)
-
 pub slice_bounds-code-end : goal.slice_bounds-code-end
 slice_bounds-code-end c = omega (arith, framed-within c)
 
@@ -46,9 +40,6 @@ returns-then-not-is_code c =
     let from = c.in_ok-from.from in
     part_other is_code code_unquoted _ _ from c.in_ok-from.ensures.opened 16 (code_long _ from) _
     (part_cut _ from 16 (from + 17) (omega arith)) (sym c.is_code.ensures ∙ c.if-not-is_code.true)
-
-pub overflow_add-from : goal.overflow_add-from
-overflow_add-from c = omega (arith, framed-within (goal.at.overflow_add-from c).Else-not-is_framed)
 
 pub after_mark-requires : goal.after_mark-requires
 after_mark-requires c = (omega (arith, framed-within (goal.at.after_mark-requires c).Else-not-is_framed), comma)

@@ -35,12 +35,6 @@ returns-then-not-is_framed c =
     part_unframed (is_timely latest) (timely_plain latest) _ _ from c.in_ok-from.ensures.opened 20 (timely_long latest _ from moment_twenty)
     (sym c.is_framed.ensures ∙ c.if-not-is_framed.true)
 
-pub overflow_add-from : goal.overflow_add-from
-overflow_add-from c = omega (arith, framed-within c)
-
-pub overflow_add-from-2 : goal.overflow_add-from-2
-overflow_add-from-2 c = omega (arith, framed-within c)
-
 pub slice_bounds-moment_of-end : goal.slice_bounds-moment_of-end
 slice_bounds-moment_of-end c = omega (arith, framed-within c)
 
@@ -58,9 +52,6 @@ returns-then-latest-value c =
     let from = c.in_ok-from.from in
     part_other (is_timely latest) (timely_plain latest) _ _ from c.in_ok-from.ensures.opened 20 (timely_long latest _ from moment_twenty) _
     (part_cut _ from 20 (from + 21) (omega arith)) (timely_late latest _ _ c.in_ok-value.ensures c.if-latest-value.true)
-
-pub overflow_add-from-3 : goal.overflow_add-from-3
-overflow_add-from-3 c = omega (arith, framed-within (goal.at.overflow_add-from-3 c).Else-not-is_framed)
 
 pub after_mark-requires : goal.after_mark-requires
 after_mark-requires c = (omega (arith, framed-within (goal.at.after_mark-requires c).Else-not-is_framed), comma)

@@ -1,6 +1,5 @@
 -- `moments::time_in` meets its contract: its test is the definition's.
 use Prim.Native.Nat.{◌≤◌}
-use native.Mathlib.Omega.{arith}
 use lib.ListN.{get_or}
 use Rattle.request_reader.specs.Walking.{time_in}
 use Rattle.request_reader.proofs.MomentReads.{pair_most}
@@ -15,18 +14,6 @@ pairs-most c =
       rw c.pair-minute.ensures (pair_most (get_or s 14 0) (get_or s 15 0)),
       rw c.pair-second.ensures (pair_most (get_or s 17 0) (get_or s 18 0)),
     )
-
-pub overflow_mul-result : goal.overflow_mul-result
-overflow_mul-result c = omega (arith, pairs-most (goal.at.overflow_mul-result c).After-pair-second)
-
-pub overflow_mul-result-then-hour-minute : goal.overflow_mul-result-then-hour-minute
-overflow_mul-result-then-hour-minute c = omega (arith, pairs-most (goal.at.overflow_mul-result-then-hour-minute c).After-pair-second)
-
-pub overflow_add-result : goal.overflow_add-result
-overflow_add-result c = omega (arith, pairs-most (goal.at.overflow_add-result c).After-pair-second)
-
-pub overflow_add-result-then-hour-minute : goal.overflow_add-result-then-hour-minute
-overflow_add-result-then-hour-minute c = omega (arith, pairs-most (goal.at.overflow_add-result-then-hour-minute c).After-pair-second)
 
 pub returns-then-hour-minute : goal.returns-then-hour-minute
 unfolding time_in

@@ -43,9 +43,6 @@ returns-in_err-parties c =
     (by_object c.args.body.now _ (not_found c.take_parties.result _ _ e.ok_part e.value)
     (no_parties c.args.body.now (few (goal.at.returns-in_err-parties c).In_ok-refuse_if) (rw e.ok_part at c.take_parties.ensures)))
 
-pub take_terms-requires : goal.take_terms-requires
-take_terms-requires c = (its_parties c).walked.within
-
 pub returns-in_err-terms : goal.returns-in_err-terms
 returns-in_err-terms c =
     let p = err_from_is_err_and c.from_residual-in_err-terms.result c.from_residual-in_err-terms.ensures.1 in
@@ -54,9 +51,6 @@ returns-in_err-terms c =
     rw (p.1, p.2)
     (by_object c.args.body.now _ (not_found c.take_terms.result _ _ e.ok_part e.value)
     (no_terms c.args.body.now (few w.In_ok-refuse_if) _ (its_parties w.In_ok-parties) (rw e.ok_part at c.take_terms.ensures)))
-
-pub series_from-requires : goal.series_from-requires
-series_from-requires c = (its_terms c).walked.within
 
 pub returns-in_err-from : goal.returns-in_err-from
 returns-in_err-from c =

@@ -9,11 +9,6 @@ pub plain_front-requires : goal.plain_front-requires
 plain_front-requires c =
     (omega (arith, c.requires.0), refl, refl, rw c.requires.2 (label_entry 0 (omega arith)), rw c.requires.2 (label_entry 1 (omega arith)))
 
-pub overflow_add-result : goal.overflow_add-result
-overflow_add-result c =
-    let w = c.in_ok-power.ensures in
-    omega (arith, w.1.within)
-
 pub returns-clause-next_step : goal.returns-clause-next_step
 returns-clause-next_step c =
     let a = c.args in

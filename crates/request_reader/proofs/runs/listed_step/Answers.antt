@@ -7,16 +7,6 @@ use Rattle.request_reader.proofs.StepLayouts.{own_front, laid_rooms}
 use Rattle.request_reader.proofs.runs.listed_step.Goals as goal
 use Rattle.request_reader.proofs.runs.listed_step.Goals.{In_ok-layout}
 
-pub run_end-requires : goal.run_end-requires
-run_end-requires c =
-    let m = may_run c.args.steps c.args.t _ c.is_over.ensures c.if-is_over-steps.false in
-    (omega (arith, m.0), c.requires.1)
-
-pub half_hours-requires : goal.half_hours-requires
-half_hours-requires c =
-    let m = may_run c.args.steps c.args.t _ c.is_over.ensures c.if-is_over-steps.false in
-    (omega (arith, m.0), c.requires.1)
-
 entries : (c : In_ok-layout) → LabelEntry label_list (c.half_hours.result * 10) × LabelEntry label_list (c.half_hours.result * 10 + 10)
 entries c =
     let b = c.if-run_end-k.false in
@@ -27,16 +17,6 @@ pub own_front-requires : goal.own_front-requires
 own_front-requires c =
     let rooms = laid_rooms c.args.s.now c.args.at c.in_ok-layout.layout c.in_ok-layout.ensures.laid_out in
     (omega (arith, rooms.0), omega (arith, rooms.1), c.in_ok-layout.ensures.power_in_bounds, rw c.requires.2 (omega (arith, (entries c).1.within)))
-
-pub bounds-powers-k : goal.bounds-powers-k
-bounds-powers-k c =
-    let m = may_run c.args.steps c.args.t _ c.is_over.ensures c.if-is_over-steps.false in
-    omega (arith, m.0, c.requires.1)
-
-pub overflow_add-result : goal.overflow_add-result
-overflow_add-result c =
-    let w = c.in_ok-power.ensures in
-    omega (arith, w.2.within)
 
 pub returns-clause-next_step : goal.returns-clause-next_step
 returns-clause-next_step c =

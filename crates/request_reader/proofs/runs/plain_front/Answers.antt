@@ -1,14 +1,8 @@
 -- `runs::plain_front` meets its contract: its six words are a step's text up to its power.
 use mathlib.Core.Bool.{not}
 use mathlib.Core.Path.{ap}
-use native.Mathlib.Omega.{arith}
 use Rattle.request_reader.proofs.PlainFronts.{plain_flags}
 use Rattle.request_reader.proofs.runs.plain_front.Goals as goal
-
-pub overflow_add-result : goal.overflow_add-result
-overflow_add-result c =
-    let w = c.in_ok-v.ensures in
-    omega (arith, w.within)
 
 pub returns : goal.returns
 returns c =

@@ -1,6 +1,5 @@
 -- The steps without blanks, and after them those that are laid out as the step before.
 use Rattle.std.proofs.Common.{rules}
-use Rattle.request_reader.proofs.StepRuns.{onward_on}
 use Rattle.request_reader.proofs.runs.steps_run.Goals as goal
 
 pub is_wide-requires : goal.is_wide-requires
@@ -13,10 +12,3 @@ run-requires-clause-fronts c =
     let laid = c.requires.3 c.in-Some.l c.in-Some.is in
     let wide = c.is_wide.ensures c.if-not-is_wide.false in
     search rules
-
-pub returns : goal.returns
-returns c =
-    let a = c.args in record {
-      onward = onward_on a.steps a.s.now a.from.at c.run-plain.result.at c.run.result.at _ _ _ c.run-plain.ensures.onward c.run.ensures.onward;
-      at_in_bounds = c.run.ensures.at_in_bounds;
-    }

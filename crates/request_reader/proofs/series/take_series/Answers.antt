@@ -13,7 +13,7 @@ use Rattle.request_reader.specs.Steps.{label_list}
 use Rattle.request_reader.specs.Series.{between_steps, Told}
 use Rattle.request_reader.proofs.Passing.{passed_tokens}
 use Rattle.request_reader.proofs.StepRuns.{told_on}
-use Rattle.request_reader.proofs.SeriesReads.{due_first, due_told, due_missing, due_next, next_less, laid_for, kept_where, none_lost, no_steps_lem, not_none, between-passed, no_end_told, last_lost, last_step}
+use Rattle.request_reader.proofs.SeriesReads.{due_told, due_missing, due_next, next_less, laid_for, kept_where, none_lost, no_steps_lem, not_none, between-passed, no_end_told, last_lost, last_step}
 use Rattle.request_reader.proofs.series.take_series.Goals as goal
 use Rattle.request_reader.proofs.series.take_series.Goals.{Else-byte_at-eq93, Else-byte_at-ne44, After-steps_run-run, then-lead-at, else-lead-at}
 
@@ -29,9 +29,6 @@ returns-then-byte_at-eq93 c =
 
 some : (c : Else-byte_at-eq93) → is (93 ∷ []) (first_token c.args.s.now c.past_blanks-first.result) ≡ false
 some c = not_none c.args.s.now c.args.from _ c.past_blanks-first.ensures.past (λ e. c.if-byte_at-eq93.false (c.byte_at.ensures ∙ e))
-
-pub loop-step-init : goal.loop-step-init
-loop-step-init c = due_first c.args.steps c.args.s.now _ _ c.past_blanks-first.ensures.passed.within
 
 pub next_step-requires : goal.next_step-requires
 unfolding label_list

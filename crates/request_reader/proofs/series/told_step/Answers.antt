@@ -8,16 +8,6 @@ use Rattle.request.proofs.Unquoted.{hour_label_lem, hour_length}
 use Rattle.request_reader.proofs.SeriesReads.{next_told}
 use Rattle.request_reader.proofs.series.told_step.Goals as goal
 
-pub slice_bounds-step_at-end : goal.slice_bounds-step_at-end
-slice_bounds-step_at-end c =
-    let h = c.hour_label-from.ensures in
-    omega (arith, ap length h.0, h.1)
-
-pub slice_bounds-step_at-end-2 : goal.slice_bounds-step_at-end-2
-slice_bounds-step_at-end-2 c =
-    let h = c.hour_label-until.ensures in
-    omega (arith, ap length h.0, h.1)
-
 pub step_at-requires : goal.step_at-requires
 step_at-requires c =
     let h = c.hour_label-from.ensures in

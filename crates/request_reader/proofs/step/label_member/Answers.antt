@@ -2,7 +2,6 @@
 use mathlib.Core.List.{[], ◌∷◌}
 use mathlib.Core.Path.{sym, ◌∙◌}
 use Prim.Native.Nat.{◌+◌, ◌≤◌}
-use native.Mathlib.Omega.{arith}
 use lib.ListN.{length}
 use Rattle.lists.specs.Searches.{every}
 use Rattle.lists.proofs.Tests.{and_left}
@@ -25,22 +24,10 @@ returns-in_err-from c =
     rw c.from_residual.ensures
     (missing_first (is c.args.name.now ∷ is (58 ∷ []) ∷ []) (quoted_by (every is_label_byte) ∷ []) c.args.s.now c.args.at c.in_err-from.ensures)
 
-pub is_quoted_at-requires : goal.is_quoted_at-requires
-is_quoted_at-requires c = (c.in_ok-from.ensures.within, c.requires.3)
-
-pub overflow_add-result : goal.overflow_add-result
-overflow_add-result c = omega (arith, framed-within c)
-
-pub overflow_add-result-then-is_quoted_at : goal.overflow_add-result-then-is_quoted_at
-overflow_add-result-then-is_quoted_at c = omega (arith, framed-within c)
-
 pub returns-then-is_quoted_at : goal.returns-then-is_quoted_at
 returns-then-is_quoted_at c =
     label_right c.args.name.now c.args.s.now c.args.at _ c.in_ok-from.ensures c.args.wanted.now
     c.requires.2 (sym c.is_quoted_at.ensures ∙ c.if-is_quoted_at.true)
-
-pub label_end-requires : goal.label_end-requires
-label_end-requires c = (c.in_ok-from.ensures.within, c.in_ok-from.ensures.past.no_blank)
 
 pub returns-in_err-next : goal.returns-in_err-next
 returns-in_err-next c =

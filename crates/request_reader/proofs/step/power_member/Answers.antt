@@ -14,9 +14,6 @@ returns-in_err-from c =
     rw c.from_residual.ensures
     (missing_first (is c.args.name.now ∷ is (58 ∷ []) ∷ []) (is_run ∷ []) c.args.s.now c.args.at c.in_err-from.ensures)
 
-pub run_to-end-requires : goal.run_to-end-requires
-run_to-end-requires c = (c.in_ok-from.ensures.within, λ b. search (rules, tests))
-
 pub returns-then-end-from : goal.returns-then-end-from
 returns-then-end-from c =
     power_lost c.args.name.now c.args.s.now c.args.at _ c.in_ok-from.ensures _ (c.run_to-end.ensures is_digit refl (λ b r k. search (rules, tests))) c.if-end-from.true

@@ -11,12 +11,6 @@ use Rattle.request_reader.proofs.ByteNumbers.{text_two, text_last, words, words_
 use Rattle.request_reader.proofs.words.same_text.Goals as goal
 use Rattle.request_reader.proofs.words.same_text.Goals.{After-all}
 
-pub returns-then-n-lt4 : goal.returns-then-n-lt4
-returns-then-n-lt4 c =
-    let n = length c.args.text.now in
-    let e : c.args.at + n - c.args.at ≡ n = omega arith in
-    rw e at c.alike.ensures
-
 pub returns-then-n-lt8 : goal.returns-then-n-lt8
 returns-then-n-lt8 c =
     rw (c.four_at.ensures, c.four_at-then-n-lt8.ensures)

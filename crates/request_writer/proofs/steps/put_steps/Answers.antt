@@ -1,7 +1,7 @@
 -- `steps::put_steps` meets its contract: so far as it has come, the steps are put.
 use Rattle.writer.specs.Placing.{step_texts}
-use Rattle.writer.proofs.Placed.{placed_none, placed_length}
-use Rattle.writer.proofs.StepTexts.{step_power, step_room, step_placed, texts_placed}
+use Rattle.writer.proofs.Placed.{placed_none}
+use Rattle.writer.proofs.StepTexts.{step_power, step_room, step_placed}
 use Rattle.request_writer.specs.Pieces.{marked_step}
 use Rattle.request_writer.proofs.steps.put_steps.Goals as goal
 
@@ -20,11 +20,3 @@ loop-k-preserved c =
     let l = c.loop-k in
     let h = c.loop-k-test.true in
     step_placed (marked_step c.args.steps) c.args.steps c.args.powers.now c.requires.0 l.k h _ _ _ _ l.invariant _ _ c.put_step-next.ensures
-
-pub shape_of-buffer : goal.shape_of-buffer
-shape_of-buffer c = placed_length c.loop-k.invariant
-
-pub returns : goal.returns
-returns c =
-    let l = c.loop-k in
-    texts_placed (marked_step c.args.steps) c.args.steps c.args.powers.now c.requires.0 _ _ _ _ l.k l.auto.k-end c.loop-k-test.false l.invariant

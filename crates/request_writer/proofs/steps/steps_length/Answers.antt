@@ -2,7 +2,7 @@
 use mathlib.Core.Path.{refl}
 use native.Mathlib.Omega.{arith}
 use Rattle.writer.specs.Placing.{step_texts}
-use Rattle.writer.proofs.StepTexts.{sum_more, sum_fits, sum_all, step_power}
+use Rattle.writer.proofs.StepTexts.{sum_more, sum_fits}
 use Rattle.request_writer.specs.Pieces.{marked_step}
 use Rattle.request_writer.proofs.StepObjects.{step_most}
 use Rattle.request_writer.proofs.steps.steps_length.Goals as goal
@@ -10,10 +10,6 @@ use Rattle.request_writer.proofs.steps.steps_length.Goals as goal
 pub loop-k-init : goal.loop-k-init
 unfolding step_texts
 loop-k-init c = refl
-
-pub step_length-sum-requires : goal.step_length-sum-requires
-step_length-sum-requires c =
-    (c.loop-k-test.true, c.requires.few, step_power c.args.steps c.args.powers.now c.requires c.loop-k.k c.loop-k-test.true)
 
 pub overflow_add-sum : goal.overflow_add-sum
 overflow_add-sum c =
@@ -25,8 +21,3 @@ pub loop-k-preserved : goal.loop-k-preserved
 loop-k-preserved c =
     let l = c.loop-k in
     sum_more (marked_step c.args.steps) c.args.steps c.args.powers.now c.requires l.k c.loop-k-test.true l.sum c.step_length-sum.result l.invariant c.step_length-sum.ensures
-
-pub returns : goal.returns
-returns c =
-    let l = c.loop-k in
-    sum_all (marked_step c.args.steps) c.args.steps c.args.powers.now c.requires l.sum l.k l.auto.k-end c.loop-k-test.false l.invariant

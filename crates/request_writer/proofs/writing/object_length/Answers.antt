@@ -23,10 +23,6 @@ acquirer_length a = search rules
 origin-length : (a : Start) → length a.args.r.origin ≡ 16
 origin-length a = search rules
 
-pub overflow_add-head : goal.overflow_add-head
-overflow_add-head c =
-    omega (arith, c.category_length-head.ensures.2, six (goal.at.overflow_add-head c).Start)
-
 pub steps_length-requires : goal.steps_length-requires
 steps_length-requires c =
     its_powers c.args.r c.requires (fifty (goal.at.steps_length-requires c).Start)
