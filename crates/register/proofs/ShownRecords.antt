@@ -71,11 +71,10 @@ module _ (h : Head) (cols : Columns) (loads : LoadColumns) (i n : ℕ) where
 -- ---- a record by its id
 
 -- a record that is found has a place in the columns
-pub found_below : (ids : List ℕ) (id n : ℕ) (f : Option ℕ) → f ≡ last_below (λ j. eqb (get_or ids j 0) id) (min n 256) → unwrap_or f 0 < 256
-found_below ids id n (Some i) e =
+pub found_below : (ids : List ℕ) (id n i : ℕ) → Some i ≡ last_below (λ j. eqb (get_or ids j 0) id) (min n 256) → i < 256
+found_below ids id n i e =
     let b : i < min n 256 = (last_below_lem (λ j. eqb (get_or ids j 0) id) (min n 256) i (sym e)).0 in
     omega arith
-found_below ids id n None e = omega arith
 
 -- 40 and 41, by what is found, after 22
 abbrev found_tried : Columns → ℕ → Option ℕ → List Test

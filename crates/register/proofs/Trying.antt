@@ -1,7 +1,7 @@
 -- Tests tried one after another by `refuse_if` and `?`: each refuses, or leaves it to those after it.
-use Rattle.std.specs.Prelude.{Result, Ok, Err, ⊤, Option, is_some, is_none}
+use Rattle.std.specs.Prelude.{Result, Ok, Err, ⊤}
 use mathlib.Core.Path.{◌≡◌, refl, ap}
-use mathlib.Core.Bool.{Bool, true, false, cond, not}
+use mathlib.Core.Bool.{Bool, true, false, cond}
 use Prim.Native.Nat.{ℕ, min}
 use native.Mathlib.Omega.{arith}
 use lib.Dec.{ltb}
@@ -37,8 +37,3 @@ room_is n m =
     by_test (ltb n m)
     (λ t. rw t (lt-ltb (min n m) m (omega (arith, ltb-true n m t))))
     (λ t. rw t (le-ltb (min n m) m (omega (arith, ltb-false n m t))))
-
--- what `is_none` tells
-pub none_told : {A : Type 0} (f : Option A) (b : Bool) → is_some f ≡ not b → b ≡ is_none f
-none_told f true e = rw e
-none_told f false e = rw e

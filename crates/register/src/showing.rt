@@ -94,10 +94,8 @@ impl Head {
             loads) asker.now id }
     {
         let a = self.actors.place(asker);
-        let found = find_id(ids, self.records, id);
-        let i = found.unwrap_or(0);
         refuse_if(!(a < self.actors.len()), StateRefusal::ActorUnknown)?;
-        refuse_if(found.is_none(), StateRefusal::NoRecord)?;
+        let i = find_id(ids, self.records, id).ok_or(StateRefusal::NoRecord)?;
         refuse_if(!is_party(keys[i as usize], a), StateRefusal::NotAsker)?;
         let records = Records {
             statuses,
