@@ -58,9 +58,6 @@ module _ (r : Request) (category day submitted : List ℕ) (ec : category ≡ ca
       room_last : m + length (third ++ status_text) ≤ length c
       room_last = room_second (third ++ status_text) q (room_second (second ++ (third ++ status_text)) p room_all)
 
-      pub room_submitted : m + length third ≤ length c
-      room_submitted = room_first m third status_text room_last
-
       module _ (d : List ℕ) (k : ℕ) (s : Placed c m third d k) where
         pub room_status : k + length status_text ≤ length d
         room_status = room_second status_text s room_last
