@@ -90,7 +90,8 @@ fn apply_in_span(net: &mut [u32; 50], gains: bool, gives: bool, mark: [u8; 4], r
 }
 
 // Applies a record to a net: its powers are gained, or given. A record in force at all counted steps has its whole row
-// gained or given; one that ends before them moves nothing there, and neither does one that both gains and gives.
+// gained or given; one that ends before them moves nothing there, and neither does one that both gains and gives: so
+// there are two flags and no enum.
 pub(crate) fn apply_record(
     net: &mut [u32; 50],
     gains: bool,

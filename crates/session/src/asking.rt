@@ -44,6 +44,7 @@ pub fn ask(store: &Store, line: &[u8], read: Line) -> Said
         result ≡ ask_step (ledger_but store.now store.now.ids approved) (asked line.now read) }
 {
     let kind = read.kind;
+    // A match, as in `answer`.
     match kind {
         Kind::Engagement => engaged(store, line, read),
         Kind::RecordOf => {
