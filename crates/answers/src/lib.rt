@@ -8,7 +8,7 @@ ghost use Rattle.answers.specs.Values.{said_refused, said_no, said_of, said_numb
 use ledger::{Answer, Shown};
 use refusals::Refusal;
 
-// The place of a letter among the values where none of them is one.
+// The place of a letter among the values where none of them is one. A number and no Option: C reads it.
 const NO_LETTER: u32 = 3;
 
 // What an answer says: number and place of the refusal, 0 and 0 where there is none; how many values the result has,

@@ -16,7 +16,8 @@ const LONG_TURN: u32 = 7;
 // The minutes of an hour.
 const HOUR: u32 = 60;
 
-// A time of day as text: 5 bytes, or 9 where it stands for the second time; the bytes past them are 0.
+// A time of day as text: 5 bytes, or 9 where it stands for the second time; the bytes past them are 0. `len` stands
+// beside them, since without a heap there is no text to give out.
 #[derive(Clone, Copy)]
 pub struct Label {
     pub bytes: [u8; 9],

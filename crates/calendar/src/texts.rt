@@ -13,7 +13,8 @@ const DIGITS: usize = 8;
 // The century of every date.
 const CENTURY: u32 = 20;
 
-// What two bytes that are no digits stand for: more than any two digits do.
+// What two bytes that are no digits stand for: more than any two digits do. A number and no Option: the test of the
+// date refuses it as it refuses any other that is too large.
 const NO_PAIR: u32 = 100;
 
 // The last digit of a number.

@@ -1,6 +1,7 @@
 -- What is true of nets and of the checks by them.
 pub mod Netting
 pub mod Passed
+pub mod Found
 pub mod Verdicts
 pub mod Keys
 pub mod Ledger

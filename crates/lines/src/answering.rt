@@ -43,7 +43,8 @@ fn has_room(output: &[u8], out: usize) -> bool
 }
 
 // Answers the lines of the input from a place on that have their LF, and puts their answers behind those that wait in
-// the output. A line that names a file is answered by what it was read as: `given` is what is known of the first line's.
+// the output. A line that names a file is answered by what it was read as: `given` is what is known of the first
+// line's.
 pub fn answer_lines(
     store: &mut Store,
     number: u64,
@@ -63,6 +64,7 @@ pub fn answer_lines(
     let mut out = out;
     let mut given = given;
     let mut wants = Wants::Input;
+    // By hand: each turn goes on where its line ended.
     while let Some(stop) = line_end(input, at) {
         if !has_room(&*output, out) {
             wants = Wants::Room;

@@ -12,7 +12,8 @@ pub struct Key {
     pub day: u32,
 }
 
-// A notification: its key, how many steps it gives a power for, and the powers; 0 past those steps.
+// A notification: its key, how many steps it gives a power for, and the powers; 0 past those steps. No heap holds a
+// list of their own length.
 #[derive(Clone, Copy)]
 pub struct Notification {
     pub key: Key,

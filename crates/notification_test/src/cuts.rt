@@ -24,10 +24,9 @@ fn in_two(name: &[u8], body: &[u8], at: usize) -> Result<Notification, Refusal> 
 
 // The length of a piece: by chance up to so many bytes and one more.
 fn piece_length(row: u32, most: u32) -> usize
-    requires { most ≤ 1000 }
     ensures { (1 ≤ result) × (result ≤ 1001) }
 {
-    (row % 1000 % (most + 1)) as usize + 1
+    (row % 1000) as usize % (most as usize + 1) + 1
 }
 
 // The same in pieces of such lengths: the way says how long they are at most, and which row of numbers is taken.
@@ -35,6 +34,7 @@ fn in_pieces(name: &[u8], body: &[u8], way: u16) -> Result<Notification, Refusal
     let mut reader = FileReader::begin(name);
     let mut row = u32::from(way) + 1;
     let mut rest = body;
+    // By hand: how long a piece is, is drawn each turn, and no iterator of the library cuts by such lengths.
     while !rest.is_empty() {
         row = next(row);
         let length = piece_length(row, u32::from(way) % 90);

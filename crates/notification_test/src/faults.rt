@@ -1,4 +1,5 @@
-// The guide's file with each fault, and bodies of the greatest length.
+// The guide's file with each fault, and bodies of the greatest length. The functions are lists of tests, which differ
+// in their data alone.
 use crate::reading::{file, other_body, other_name};
 use std::io;
 

@@ -22,17 +22,17 @@ pub(crate) fn write_into(
     name: &mut [u8],
     body: &mut [u8],
 ) -> io::Result<()> {
-    let name_before = mixed(1, &*name);
-    let body_before = mixed(1, &*body);
+    let name_before = mixed(1, name);
+    let body_before = mixed(1, body);
     print!(rt; "{title}: ")?;
-    match writer::writing::write_file(n, &mut *name, &mut *body) {
+    match writer::writing::write_file(n, name, body) {
         Ok(lengths) => print!(rt; "ok, name of {}, body of {}", lengths.name, lengths.body)?,
         Err(r) => put_refusal(rt, r)?,
     }
     print!(rt; ", name")?;
-    change(rt, name_before, mixed(1, &*name))?;
+    change(rt, name_before, mixed(1, name))?;
     print!(rt; ", body")?;
-    change(rt, body_before, mixed(1, &*body))?;
+    change(rt, body_before, mixed(1, body))?;
     println!(rt)
 }
 

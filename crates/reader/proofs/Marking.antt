@@ -2,20 +2,18 @@
 use mathlib.Core.Path.{◌≡◌, refl, sym, ap, ◌∙◌}
 use mathlib.Core.Bool.{Bool, true, false, ◌&&◌}
 use mathlib.Core.List.{List, [], ◌∷◌, ◌++◌}
-use Prim.Native.Nat.{ℕ, zero, suc, ◌+◌, ◌-◌, ◌*◌, ◌/◌, ◌%◌, ◌<◌, ◌≤◌}
-use native.Mathlib.Nat.{add-zero}
+use Prim.Native.Nat.{ℕ, ◌+◌, ◌-◌, ◌*◌, ◌/◌, ◌%◌, ◌<◌, ◌≤◌}
 use native.Mathlib.Omega.{arith}
 use lib.Dec.{leb, ltb, eqb}
-use lib.ListN.{length, get_or, get_or-eq_default}
+use lib.ListN.{get_or}
 use borrow.Author.Tests.{eqb-true, lt-ltb, le-ltb, lt-leb, ltb-true, ltb-false}
-use Rattle.lists.proofs.Tests.{by_test, and_left, and_right, true_of}
+use Rattle.lists.proofs.Tests.{by_test, true_of}
 use Rattle.lists.proofs.Below.{below}
 use Rattle.calendar.specs.Steps.{plain_steps, step_minutes}
 use Rattle.calendar.specs.Labels.{turn_of, minute_of, again_at, label_of}
 use Rattle.notification.specs.Forms.{places}
 use Rattle.notification.specs.Writing.{label_text}
-use Rattle.reader.specs.Walking.{six_at, four_at, six, no_mark, time_mark, times_text, half_hours, mark_of, Plain, LineAt, TailSays, LineSays}
-use Rattle.std.specs.Prelude.{Option, Some, None}
+use Rattle.reader.specs.Walking.{six_at, six, no_mark, time_mark, times_text, half_hours, mark_of, Plain, LineAt}
 
 -- ---- the marks, as a reader makes them
 
@@ -153,53 +151,9 @@ six_same a b c d e f g h i j k l r s m =
     let p4 = peel e k f l r.b4 s.b4 p3.1 in
     cc (p0.0, p1.0, p2.0, p3.0, p4.0, p4.1)
 
-halves : (a b p q : ℕ) → a < no_mark → b < no_mark → a + no_mark * p ≡ b + no_mark * q → (a ≡ b) × (p ≡ q)
-halves a b p q h k e = (omega arith, omega arith)
-
--- twelve bytes as eight and four
-same_twelve : (a b c d e f g h i j k l a' b' c' d' e' f' g' h' i' j' k' l' : ℕ) → Bytes a b c d e f → Bytes g h i j k l → Bytes a' b' c' d' e' f' → Bytes g' h' i' j' k' l'
-    → (a + 256 * (b + 256 * (c + 256 * d))) + (e + 256 * (f + 256 * (g + 256 * h))) * 4294967296 ≡ (a' + 256 * (b' + 256 * (c' + 256 * d'))) + (e' + 256 * (f' + 256 * (g' + 256 * h'))) * 4294967296
-    → i + 256 * (j + 256 * (k + 256 * l)) ≡ i' + 256 * (j' + 256 * (k' + 256 * l'))
-    → (six a b c d e f ≡ six a' b' c' d' e' f') × (six g h i j k l ≡ six g' h' i' j' k' l')
-same_twelve a b c d e f g h i j k l a' b' c' d' e' f' g' h' i' j' k' l' r s r' s' m w =
-    let u : six a b c d e f + no_mark * (g + 256 * h) ≡ six a' b' c' d' e' f' + no_mark * (g' + 256 * h') = omega arith in
-    let v = halves (six a b c d e f) (six a' b' c' d' e' f') (g + 256 * h) (g' + 256 * h') (six_small a b c d e f r) (six_small a' b' c' d' e' f' r') u in
-    (v.0, omega (arith, v.1))
-
 -- the bytes at a place, as a reader reads them
 pub bytes_at : (s : List ℕ) (a : ℕ) → ((j : ℕ) → get_or s j 0 < 256) → Bytes (get_or s a 0) (get_or s (a + 1) 0) (get_or s (a + 2) 0) (get_or s (a + 3) 0) (get_or s (a + 4) 0) (get_or s (a + 5) 0)
 bytes_at s a h = record { b0 = h a; b1 = h (a + 1); b2 = h (a + 2); b3 = h (a + 3); b4 = h (a + 4); b5 = h (a + 5) }
-
-middle : (s : List ℕ) (a : ℕ) → four_at s (a + 4) ≡ get_or s (a + 4) 0 + 256 * (get_or s (a + 5) 0 + 256 * (get_or s (a + 6) 0 + 256 * get_or s (a + 6 + 1) 0))
-middle s a =
-    let q1 : a + 4 + 1 ≡ a + 5 = omega arith in
-    let q2 : a + 4 + 2 ≡ a + 6 = omega arith in
-    let q3 : a + 4 + 3 ≡ a + 6 + 1 = omega arith in
-    rw (q1, q2, q3)
-
-final : (s : List ℕ) (a : ℕ) → four_at s (a + 8) ≡ get_or s (a + 6 + 2) 0 + 256 * (get_or s (a + 6 + 3) 0 + 256 * (get_or s (a + 6 + 4) 0 + 256 * get_or s (a + 6 + 5) 0))
-final s a =
-    let q0 : a + 8 ≡ a + 6 + 2 = omega arith in
-    let q1 : a + 6 + 2 + 1 ≡ a + 6 + 3 = omega arith in
-    let q2 : a + 6 + 2 + 2 ≡ a + 6 + 4 = omega arith in
-    let q3 : a + 6 + 2 + 3 ≡ a + 6 + 5 = omega arith in
-    rw (q0, q1, q2, q3)
-
--- the two numbers that a reader compares
-pub marks_flag : (s t : List ℕ) (a i x y z x' y' z' : ℕ) → ((j : ℕ) → get_or s j 0 < 256) → ((j : ℕ) → get_or t j 0 < 256)
-    → x ≡ four_at s a → y ≡ four_at s (a + 4) → z ≡ four_at s (a + 8) → x' ≡ four_at t i → y' ≡ four_at t (i + 4) → z' ≡ four_at t (i + 8)
-    → (eqb (x + y * 4294967296) (x' + y' * 4294967296) && eqb z z') ≡ true
-    → (six_at s a ≡ six_at t i) × (six_at s (a + 6) ≡ six_at t (i + 6))
-marks_flag s t a i x y z x' y' z' h g p q r p' q' r' e =
-    let l = eqb (x + y * 4294967296) (x' + y' * 4294967296) in
-    let m = eqb z z' in
-    let u = rw (p, q, p', q', middle s a, middle t i) at (eqb-true (x + y * 4294967296) (x' + y' * 4294967296) (and_left l m e)) in
-    let v = rw (r, r', final s a, final t i) at (eqb-true z z' (and_right l m e)) in
-    same_twelve (get_or s a 0) (get_or s (a + 1) 0) (get_or s (a + 2) 0) (get_or s (a + 3) 0) (get_or s (a + 4) 0) (get_or s (a + 5) 0)
-    (get_or s (a + 6) 0) (get_or s (a + 6 + 1) 0) (get_or s (a + 6 + 2) 0) (get_or s (a + 6 + 3) 0) (get_or s (a + 6 + 4) 0) (get_or s (a + 6 + 5) 0)
-    (get_or t i 0) (get_or t (i + 1) 0) (get_or t (i + 2) 0) (get_or t (i + 3) 0) (get_or t (i + 4) 0) (get_or t (i + 5) 0)
-    (get_or t (i + 6) 0) (get_or t (i + 6 + 1) 0) (get_or t (i + 6 + 2) 0) (get_or t (i + 6 + 3) 0) (get_or t (i + 6 + 4) 0) (get_or t (i + 6 + 5) 0)
-    (bytes_at s a h) (bytes_at s (a + 6) h) (bytes_at t i g) (bytes_at t (i + 6) g) u v
 
 -- ---- a mark and its label
 
@@ -253,42 +207,6 @@ label_mark steps at a b c d e f h g r m =
     let l = half_small steps at h g in
     let s : Bytes (48 + j / 20) (48 + j / 2 % 10) 58 (48 + j % 2 * 3) 48 59 = record { b0 = omega arith; b1 = omega arith; b2 = omega arith; b3 = omega arith; b4 = omega arith; b5 = omega arith } in
     six_same a b c d e f (48 + j / 20) (48 + j / 2 % 10) 58 (48 + j % 2 * 3) 48 59 r s n ∙ sym (plain_label steps at (again_mark steps at ∙ t) l))
-
--- ---- a good line, as a reader finds it
-
-there : (s : List ℕ) (i : ℕ) → get_or s i 0 ≡ 10 → i < length s
-there s i e =
-    by_test (ltb i (length s)) (λ t. ltb-true i (length s) t)
-    (λ t. absurd (omega (arith, get_or-eq_default s 0 (ltb-false i (length s) t))))
-
--- the six bytes from a place on
-abbrev six_from : List ℕ → ℕ → List ℕ
-six_from s p =
-    get_or s p 0 ∷ get_or s (p + 1) 0 ∷ get_or s (p + 2) 0 ∷ get_or s (p + 3) 0 ∷ get_or s (p + 4) 0 ∷ get_or s (p + 5) 0 ∷ []
-
-six_byte : (s : List ℕ) (p i : ℕ) → i ≤ 5 → get_or (six_from s p) i 0 ≡ get_or s (p + i) 0
-six_byte s p zero h = ap (λ (j : ℕ). get_or s j 0) (sym (add-zero p))
-six_byte s p (suc zero) h = refl
-six_byte s p (suc (suc zero)) h = refl
-six_byte s p (suc (suc (suc zero))) h = refl
-six_byte s p (suc (suc (suc (suc zero)))) h = refl
-six_byte s p (suc (suc (suc (suc (suc zero))))) h = refl
-six_byte s p (suc (suc (suc (suc (suc (suc i)))))) h = absurd (omega arith)
-
--- what is said of the six bytes after the marks is said of the line
-pub line_says_lem : (s : List ℕ) (at from until d e f : ℕ) (r : Option (ℕ × ℕ)) → ((i : ℕ) → get_or s i 0 < 256)
-    → (six_at s at ≡ from) × (six_at s (at + 6) ≡ until)
-    → d ≡ get_or s (at + 12 + 3) 0 → e ≡ get_or s (at + 12 + 4) 0 → f ≡ get_or s (at + 12 + 5) 0
-    → TailSays (get_or s (at + 12) 0) (get_or s (at + 12 + 1) 0) (get_or s (at + 12 + 2) 0) d e f r → LineSays s at from until r
-line_says_lem s at from until d e f None h m x y z t = tt
-line_says_lem s at from until d e f (Some (v, n)) h m x y z t =
-    let u = rw (x, y, z) at t in
-    let g = u.more in
-    let k = u.few in
-    let i : at + 12 + (n - 13) ≡ at + n - 1 = omega arith in
-    let b : get_or s (at + n - 1) 0 ≡ 10 = rw i at (sym (six_byte s (at + 12) (n - 13) (omega arith)) ∙ u.break) in
-    let l = there s (at + n - 1) b in
-    record { bytes = h; first = m.0; second = m.1; power = u.power; break = b; more = omega arith; within = omega arith }
 
 -- the same line, with its marks said otherwise
 pub as_marks : {s : List ℕ} {at v n a b c d : ℕ} → a ≡ c → b ≡ d → LineAt s at a b v n → LineAt s at c d v n

@@ -1,6 +1,6 @@
 -- What is kept after all steps, however they are told, is what the table says of them: their number, the first fault, the powers.
 use mathlib.Core.Path.{◌≡◌, refl, sym, ap, subst, ◌∙◌}
-use mathlib.Core.Bool.{Bool, true, false, cond, not, ◌&&◌}
+use mathlib.Core.Bool.{true, false, cond, not}
 use mathlib.Core.List.{List, [], ◌∷◌, ◌++◌}
 use Prim.Native.Nat.{ℕ, zero, suc, ◌+◌, ◌-◌, ◌<◌, ◌≤◌, min}
 use native.Mathlib.Nat.{zero-add}
@@ -9,8 +9,6 @@ use lib.Dec.{eqb}
 use lib.ListN.{length, drop, replicate, set, length-replicate}
 use lib.Seq.{sets, sets-eq}
 use borrow.Author.Tests.{eqb-true, eqb-false, eq-eqb, ne_eqb, lt-leb}
-use Rattle.std.specs.List.{list_all}
-use Rattle.lists.specs.Searches.{every}
 use Rattle.lists.proofs.Tests.{by_test}
 use Rattle.refusals.specs.Tests.{input, decide, Verdict, pass}
 use Rattle.refusals.specs.declared.Refusal.{Refusal}
@@ -49,12 +47,6 @@ module _ (steps : ℕ) (t : Tally) (ps : List ℕ) where
     pub outcome_zeros : fault_of t ≡ pass → all_zero ps ≡ true → Err (input Zeros) ≡ outcome_of steps t ps
     unfolding outcome_of
     outcome_zeros v a = rw (eq-eqb t.lines steps h, v, a)
-
--- ---- every entry passes a test, as the library says it
-
-pub every_all : {A : Type 0} (p : A → Bool) (xs : List A) → every p xs ≡ list_all p xs
-every_all p [] = refl
-every_all p (x ∷ xs) = ap (λ (b : Bool). p x && b) (every_all p xs)
 
 -- ---- the powers in their places
 

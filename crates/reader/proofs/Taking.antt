@@ -1,17 +1,15 @@
 -- What one step adds to what is kept, by what is said of it.
-use mathlib.Core.Path.{◌≡◌, sym, ap, ◌∙◌}
+use mathlib.Core.Path.{◌≡◌, sym, ◌∙◌}
 use mathlib.Core.Bool.{Bool, true, false, not}
 use mathlib.Core.List.{List}
-use Prim.Native.Nat.{ℕ, ◌+◌, ◌<◌}
+use Prim.Native.Nat.{ℕ, ◌<◌}
 use lib.Dec.{leb, eqb}
-use lib.ListN.{set}
 use borrow.Author.Tests.{eqb-true, leb-false, not-false}
 use Rattle.lists.proofs.Tests.{or_left, or_right}
 use Rattle.reader.specs.Walking.{line_power}
-use Rattle.reader.specs.Folding.{Taken, counted, labels_fault, power_fault, faulted, judged, is_over, first_line, take_step}
+use Rattle.reader.specs.Folding.{Taken, counted, judged, is_over, first_line, take_step}
 use Rattle.reader.specs.declared.tally.StepFault.{StepFault}
-use Rattle.reader.specs.declared.tally.StepFault.TheVariants.{NoLabels, NoPower}
-use Rattle.std.specs.Prelude.{Result, Ok, Err}
+use Rattle.std.specs.Prelude.{Result}
 use Rattle.reader.specs.declared.tally.Tally.{Tally}
 
 -- ---- a step of the day
@@ -19,15 +17,6 @@ use Rattle.reader.specs.declared.tally.Tally.{Tally}
 module _ (first : ℕ) (t r : Tally) (ps : List ℕ) (said : Result ℕ StepFault) where
   abbrev x : Taken
   x = record { tally = t; powers = ps }
-
-  pub noted_power : (v : ℕ) → said ≡ Ok v → r ≡ counted t → record { tally = r; powers = set ps t.lines v } ≡ judged first x said
-  noted_power v g q = rw q (sym (ap (judged first x) g))
-
-  pub noted_no_labels : said ≡ Err NoLabels → r ≡ faulted t labels_fault (t.lines + first) → record { tally = r; powers = ps } ≡ judged first x said
-  noted_no_labels g q = rw q (sym (ap (judged first x) g))
-
-  pub noted_no_power : said ≡ Err NoPower → r ≡ faulted t power_fault (t.lines + first) → record { tally = r; powers = ps } ≡ judged first x said
-  noted_no_power g q = rw q (sym (ap (judged first x) g))
 
 -- ---- whether the tests of the steps are over
 

@@ -8,6 +8,7 @@ use crate::keys::is_header;
 use refusals::InputRefusal;
 
 // What is found of a line 1 that isn't the name's header, the number of its refusal: it is no header, or another's.
+// Numbers and no enum: C holds the file reader that they stand in.
 pub(crate) const NO_HEADER: u32 = InputRefusal::Header as u32;
 
 pub(crate) const OTHER_HEADER: u32 = InputRefusal::Differs as u32;
@@ -21,7 +22,7 @@ pub fn alike(a: &[u8], b: &[u8]) -> bool
 
 // Whether a header's line and its LF stand at a place of a text: looked at without searching the line's end.
 pub(crate) fn is_headed(header: &[u8], body: &[u8], from: usize) -> bool
-    requires { (50 ≤ length header.now) × (length header.now ≤ 51) × (from ≤ length body.now) }
+    requires { from ≤ length body.now }
     ensures { result ≡ starts_with header.now (drop from body.now) }
 {
     body[from..].starts_with(header)

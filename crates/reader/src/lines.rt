@@ -10,11 +10,14 @@ use crate::steps::take_steps;
 use crate::tally::{Run, Tally};
 use lists::bytes::byte_from;
 
+// No line was seen yet.
+pub(crate) const NO_LINE: u32 = 0;
+
 // The header is the name's.
 const NAMES_HEADER: u32 = 1;
 
 // What a file's lines so far have shown: what was found of the header (0: no line yet, 1: it is the name's, 3 and 4:
-// what refuses it), and the steps.
+// what refuses it), and the steps. A number and no enum, as in the tally: it lies in the file reader that C holds.
 #[repr(C)]
 #[derive(Clone, Copy)]
 pub struct FileTally {
@@ -35,7 +38,7 @@ fn rest_start(s: &[u8], from: usize) -> usize
 
 // The name's header, where it comes first.
 fn take_header(t: FileTally, header: &[u8], body: &[u8], from: usize) -> Run<FileTally>
-    requires { (50 ≤ length header.now) × (length header.now ≤ 51) × (from ≤ length body.now) }
+    requires { from ≤ length body.now }
     ensures tally_value { result.tally
         ≡ record {
           header = headed_by header.now t.header (drop from body.now);
@@ -45,7 +48,7 @@ fn take_header(t: FileTally, header: &[u8], body: &[u8], from: usize) -> Run<Fil
         ≡ past_header header.now t.header (drop from body.now) }
     ensures at_in_bounds { result.at ≤ length body.now }
 {
-    if t.header != 0 {
+    if t.header != NO_LINE {
         return Run { tally: t, at: from };
     }
     if !is_headed(header, body, from) {
@@ -69,7 +72,7 @@ fn pass_lines(t: FileTally, body: &[u8], from: usize) -> Run<FileTally>
     ensures at_value { result.at ≡ from + whole_to (drop from body.now) }
 {
     let at = rest_start(body, from);
-    if t.header != 0 {
+    if t.header != NO_LINE {
         return Run { tally: t, at };
     }
     let end = byte_from(body, from, b'\n');
@@ -84,7 +87,8 @@ fn pass_lines(t: FileTally, body: &[u8], from: usize) -> Run<FileTally>
 }
 
 // A text's lines from a place on, each ended by LF, one after another, and where the unfinished line begins. The
-// header's line that the name asks for is given with its LF.
+// header's line that the name asks for is given with its LF. A text and a place in it, here and below, and not the
+// rest of the text: what is given back is a place of the same text.
 pub(crate) fn take_lines(
     t: FileTally,
     header: &[u8],
@@ -93,8 +97,7 @@ pub(crate) fn take_lines(
     from: usize,
     powers: &mut [u16; 50],
 ) -> Run<FileTally>
-    requires { (50 ≤ length header.now) × (length header.now ≤ 51) × (steps ≤ places)
-        × (from ≤ length body.now) }
+    requires { (steps ≤ places) × (from ≤ length body.now) }
     ensures powers_after { with_powers result.tally powers.new
         ≡ take_text header.now steps (with_powers t powers.old) (drop from body.now) }
     ensures body_value { drop result.at body.now

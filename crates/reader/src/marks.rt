@@ -19,7 +19,8 @@ pub fn half_hours(steps: u32, at: u32) -> u32
     }
 }
 
-// The boundary up to which the labels from a boundary on go on by half hours; 0 where they don't.
+// The boundary up to which the labels from a boundary on go on by half hours; 0 where they don't, and no Option: a loop
+// goes on as long as it is below that.
 pub fn run_end(steps: u32, k: u32) -> u32
     requires { (k ≤ steps) × (steps ≤ places) }
     ensures { k < result → Plain steps k result }
@@ -51,7 +52,8 @@ pub fn four(s: &[u8], a: usize) -> u64
     u64::from(u32::from_le_bytes([s[a], s[a + 1], s[a + 2], s[a + 3]]))
 }
 
-// Whether the same twelve bytes stand at a place of each text.
+// Whether the same twelve bytes stand at a place of each text. As numbers of eight and of four bytes: `==` of the two
+// slices is a call here, and takes 36 instructions more for each line of a file.
 fn twelve(s: &[u8], a: usize, t: &[u8], i: usize) -> bool
     requires { (a + 12 ≤ length s.now) × (i + 12 ≤ length t.now) }
     ensures a_value { result ≡ true → (six_at s.now a ≡ six_at t.now i)
@@ -75,8 +77,8 @@ fn ended(b: u8, v: u32, n: usize) -> Option<(u16, usize)>
     }
 }
 
-// The power, `;` and LF that six bytes begin with, and how many bytes the line has with the twelve of its labels. Not by
-// `power_of`: on each way it is known here which byte has to be LF, and none is looked up by its place.
+// The power, `;` and LF that six bytes begin with, and how many bytes the line has with the twelve of its labels. Not
+// by `power_of`: on each way it is known here which byte has to be LF, and none is looked up by its place.
 fn tail_of(a: u8, b: u8, c: u8, d: u8, e: u8, f: u8) -> Option<(u16, usize)>
     ensures { TailSays a b c d e f result }
 {

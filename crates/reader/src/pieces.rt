@@ -18,9 +18,9 @@ ghost use Rattle.reader.specs.InHand.{
 };
 
 use crate::keys::name_key;
-use crate::lines::{FileTally, take_lines};
+use crate::lines::{FileTally, NO_LINE, take_lines};
 use crate::reading::conclude;
-use crate::tally::Tally;
+use crate::tally::{NO_FAULT, Tally};
 use calendar::steps_of;
 use lists::bytes::byte_from;
 use notification::forms::in_bytes;
@@ -47,7 +47,7 @@ const STEPS: u32 = 50;
 
 // A file being read. Of the name: the day, its steps, how many bytes the header's line has with its LF (0 where the
 // name is none), and these bytes. Of the body: how many bytes came, what the whole lines have shown, the powers, and
-// the beginning of the line in hand, with how many bytes it has.
+// the beginning of the line in hand, with how many bytes it has. C holds it: so lengths stand beside bytes.
 #[repr(C)]
 #[derive(Clone, Copy)]
 pub struct FileReader {
@@ -62,7 +62,7 @@ pub struct FileReader {
     pub header: [u8; 51],
 }
 
-// A line in hand that ends: its bytes and LF, and how many it has without LF.
+// A line in hand that ends: its bytes and LF, and how many it has without LF, since there is no heap for a text.
 #[derive(Clone, Copy)]
 struct WholeLine {
     text: [u8; 65],
@@ -104,10 +104,13 @@ fn fresh(header: [u8; 51], named: u32, day: u32) -> FileReader
 {
     let steps = Tally {
         lines: 0,
-        fault: 0,
+        fault: NO_FAULT,
         place: 0,
     };
-    let tally = FileTally { header: 0, steps };
+    let tally = FileTally {
+        header: NO_LINE,
+        steps,
+    };
     FileReader {
         day,
         steps: steps_of(day),
@@ -186,7 +189,7 @@ impl FileReader {
         piece: &[u8],
         from: usize,
     ) -> FileReader
-        requires { (50 ≤ self.named) × (from ≤ length piece.now) }
+        requires { from ≤ length piece.now }
         ensures { in_hand result
             ≡ walked (in_hand self) total (with_powers tally powers) (drop from piece.now) }
     {
@@ -209,7 +212,6 @@ impl FileReader {
 
     // A piece more, after a line in hand.
     fn go_on(self, total: u32, piece: &[u8]) -> FileReader
-        requires { 50 ≤ self.named }
         ensures { in_hand result
             ≡ continued (in_hand self) total piece.now (byte_from 10 piece.now 0) }
     {

@@ -13,6 +13,7 @@ use refusals::trying::refuse_if;
 use refusals::{InputRefusal, Refusal};
 
 // Whether every power is 0: most often the first isn't.
+#[tactic(auto, unfolding(notification::specs::Forms::all_zero))]
 fn is_zero(powers: [u16; 50]) -> bool
     ensures { result ≡ all_zero powers }
 {

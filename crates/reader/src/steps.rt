@@ -117,6 +117,7 @@ pub(crate) fn take_steps(
 {
     let mut tally = t;
     let mut at = from;
+    // By hand: each turn goes on where its line ended.
     loop {
         let run = good_run(tally, steps, body, at, powers);
         let end = byte_from(body, run.at, b'\n');

@@ -9,9 +9,9 @@ use refusals::{InputRefusal, Refusal};
 // More steps than any day has are counted as one more than that.
 const MOST_LINES: u32 = 51;
 
-// The fault of a step whose labels are wrong, and of one whose power is: the number of the refusal. 0 is no fault. Numbers
-// and no enum: a tally lies in the file reader that C holds, so that any number may stand there.
-const NO_FAULT: u32 = 0;
+// The fault of a step whose labels are wrong, and of one whose power is: the number of the refusal. 0 is no fault.
+// Numbers and no enum: a tally lies in the file reader that C holds, so that any number may stand there.
+pub(crate) const NO_FAULT: u32 = 0;
 
 const LABELS: u32 = InputRefusal::Labels as u32;
 

@@ -35,7 +35,6 @@ module _ (s k x y : Bool) where
   second_false : k ≡ false → (s && k && x && y) ≡ false
   second_false e = ap (λ b. b && x && y) (and_false s k e)
 
-
 -- ---- the other party's created record with the same powers
 
 module _ (by own status key : ℕ) (ps mark row : List ℕ) where

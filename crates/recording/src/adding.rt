@@ -49,7 +49,8 @@ pub fn totals_of(records: Records, n: u32, market: u32, actor: u32, s: u32) -> T
     requires { (n ≤ 256) × (s < 50) }
     ensures { ((ids : List ℕ) →
         let cols = columns_of records.entry ids in
-        (result.gained ≡ sum_to n (gained_at cols market actor s)) × (result.given ≡ sum_to n (given_at cols market actor s)))
+        (result.gained ≡ sum_to n (gained_at cols market actor s))
+        × (result.given ≡ sum_to n (given_at cols market actor s)))
         × ((result.gained ≤ n * 65535) × (result.given ≤ n * 65535)) }
 {
     let mut gained: u32 = 0;

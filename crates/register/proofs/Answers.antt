@@ -1,5 +1,5 @@
 -- What the engagement call and the history answer: the ledger's tests by the numbers that the register finds, and what is told where they pass.
-use Rattle.std.specs.Prelude.{Err, None, Option, Some, Ok, Result}
+use Rattle.std.specs.Prelude.{Err, Option, Ok, Result}
 use mathlib.Core.Path.{◌≡◌, sym, ap, ◌∙◌}
 use mathlib.Core.Bool.{not}
 use mathlib.Core.List.{List, [], ◌∷◌, ◌++◌}
@@ -14,7 +14,7 @@ use Rattle.calendar.proofs.StepCounts.{steps_day, steps_small}
 use Rattle.refusals.specs.Tests.{Test, state, first_met, Verdict, pass}
 use Rattle.refusals.specs.declared.Refusal.{Refusal}
 use Rattle.refusals.specs.declared.StateRefusal.TheVariants.{ActorUnknown, Full}
-use Rattle.refusals.proofs.Tests.{pass_all, tried_all, tried_first}
+use Rattle.refusals.proofs.Tests.{pass_all}
 use Rattle.notification.specs.Forms.{category_text}
 use Rattle.ledger.specs.Ledger.{actor_at, category_at, engagement, gained, loaded}
 use Rattle.ledger.specs.Asking.{ask_engagement, engagement_tests, engaged_at, history_of, history_tests, ask_history, history_in}

@@ -67,10 +67,10 @@ record_exists r asker id =
     (λ t ls. record_any r.head x r.loads ls asker id)
 
 -- a history depends on ids and keys alone of what is lent
-history_any : (h : Head) (cols : Columns) (ls : LoadColumns) (statuses : List ℕ) (marks rows : List (List ℕ)) (ls' : LoadColumns) (actor : List ℕ) →
-    history_of (view h cols ls) actor ≡ history_of (view h (columns statuses cols.ids cols.keys marks rows) ls') actor
+history_any : (h : Head) (cols : Columns) (ls : LoadColumns) (statuses : List ℕ) (marks rows : List (List ℕ)) (other : LoadColumns) (actor : List ℕ) →
+    history_of (view h cols ls) actor ≡ history_of (view h (columns statuses cols.ids cols.keys marks rows) other) actor
 unfolding view records_in
-history_any h cols ls statuses marks rows ls' actor =
+history_any h cols ls statuses marks rows other actor =
     let a = actor_at (actors_in h.actors) actor in
     let n = min h.records 256 in
     ids_only cols n a ∙ sym (ids_only (columns statuses cols.ids cols.keys marks rows) n a)

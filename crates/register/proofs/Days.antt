@@ -1,40 +1,18 @@
 -- The tests of a filing's day, contracts and load, by what the code has found.
-use Rattle.std.specs.Prelude.{Result, Ok, Err, ⊤, None, Option, Some, is_none, is_some}
-use mathlib.Core.Path.{◌≡◌, refl, sym, ◌∙◌, ap}
-use mathlib.Core.Bool.{Bool, cond, not}
-use mathlib.Core.List.{List, [], ◌∷◌}
-use Prim.Native.Nat.{ℕ, ◌+◌, ◌<◌}
-use lib.Dec.{ltb}
-use Rattle.calendar.specs.Steps.{steps_of}
-use Rattle.calendar.specs.Clocks.{first_counted}
-use Rattle.refusals.specs.Tests.{Test, state, first_met, pass}
-use Rattle.refusals.specs.declared.StateRefusal.{StateRefusal}
-use Rattle.refusals.specs.declared.StateRefusal.TheVariants.{DayPast, NoStep, AcquirerContract, CederContract, NoLoad}
-use Rattle.refusals.proofs.Tests.{tried_all, tried_first}
+use Rattle.std.specs.Prelude.{Err, None, Option, Some, is_none, is_some}
+use mathlib.Core.Path.{◌≡◌, refl, ◌∙◌, ap}
+use mathlib.Core.Bool.{not}
+use mathlib.Core.List.{List, ◌∷◌}
+use Prim.Native.Nat.{ℕ, ◌<◌}
+use Rattle.refusals.specs.Tests.{state, first_met}
+use Rattle.refusals.specs.declared.StateRefusal.TheVariants.{NoLoad}
 use Rattle.ledger.specs.Ledger.{Key, has_load}
-use Rattle.ledger.specs.Filing.{in_contract, reach_of, far_of, day_tests, load_test, step_tests}
-use Rattle.ledger.specs.declared.Entry.{Entry}
+use Rattle.ledger.specs.Filing.{load_test, step_tests}
 use Rattle.tables.specs.Tables.{Columns, LoadColumns, load_number, loads_in}
 use Rattle.tables.specs.Passing.{last_load}
 use Rattle.register.specs.declared.Head.{Head}
 use Rattle.register.specs.View.{view}
-use Rattle.register.proofs.Trying.{refuses, goes_on}
 use Rattle.register.proofs.CallTests.{has_load_lem}
-
--- ---- 26 to 30
-
-abbrev timely_tried : Head → Key → ℕ → ℕ → Bool → Bool → Bool → StateRefusal → List Test
-timely_tried h k first until far acquirer ceder f =
-    (ltb k.day h.clock.day, state DayPast) ∷ (far, state f) ∷ (not (ltb first until), state NoStep)
-    ∷ (not acquirer, state AcquirerContract) ∷ (not ceder, state CederContract) ∷ []
-
-pub timely_is : (h : Head) (cols : Columns) (loads : LoadColumns) (entry : Entry) (k : Key) (first until : ℕ) (far acquirer ceder : Bool)
-    (f : StateRefusal) → far ≡ ltb (h.clock.day + reach_of entry) k.day → f ≡ far_of entry →
-    first ≡ first_counted h.clock k.day → until ≡ steps_of k.day →
-    acquirer ≡ in_contract (view h cols loads) k.acquirer k.day → ceder ≡ in_contract (view h cols loads) k.ceder k.day →
-    tried_all pass (timely_tried h k first until far acquirer ceder f) ≡ first_met (day_tests (view h cols loads) entry k)
-unfolding day_tests view
-timely_is h cols loads entry k first until far acquirer ceder f er ef e1 e2 ea ec = tried_first (timely_tried h k first until far acquirer ceder f) ∙ rw (er, ef, e1, e2, ea, ec)
 
 -- ---- the load
 
@@ -47,12 +25,12 @@ module _ (h : Head) (cols : Columns) (loads : LoadColumns) (k : Key) (number : �
   unloaded : is_none f ≡ not (has_load (loads_in h.loads loads) k.ceder k.category k.day)
   unloaded = none_not f ∙ ap not (has_load_lem h.loads loads k.ceder k.category k.day number f hc hz en ef)
 
-  pub load_refused : (g : StateRefusal) → ◌≡◌ {A = Result ⊤ StateRefusal} (Err g) (cond (is_none f) (Err NoLoad) (Ok tt)) → (ps : List ℕ) →
-      Err (state g) ≡ first_met (load_test (view h cols loads) k ∷ step_tests (view h cols loads) k ps)
+  pub load_refused : f ≡ None → (ps : List ℕ) →
+      Err (state NoLoad) ≡ first_met (load_test (view h cols loads) k ∷ step_tests (view h cols loads) k ps)
   unfolding load_test view
-  load_refused g e ps = rw (← unloaded) (sym (refuses state (is_none f) NoLoad g _ e))
+  load_refused e ps = rw (← unloaded, e) refl
 
-  pub load_passed : (u : ⊤) → ◌≡◌ {A = Result ⊤ StateRefusal} (Ok u) (cond (is_none f) (Err NoLoad) (Ok tt)) → (ps : List ℕ) →
+  pub load_passed : (i : ℕ) → f ≡ Some i → (ps : List ℕ) →
       first_met (step_tests (view h cols loads) k ps) ≡ first_met (load_test (view h cols loads) k ∷ step_tests (view h cols loads) k ps)
   unfolding load_test view
-  load_passed u e ps = rw (← unloaded) (sym (goes_on state (is_none f) NoLoad u _ e))
+  load_passed i e ps = rw (← unloaded, e) refl

@@ -24,7 +24,7 @@ pub record Demand2 (cs : List Call) (ys : List Answered) (t : Register) : Type 1
   pub engagement : (actor category : List ℕ) (day s : ℕ) (y : Result ℕ Refusal) → Engages t actor category day s y →
       y ≡ ask_engagement (after fresh cs) actor category day s
   -- a record by id
-  pub record_of : (asker : List ℕ) (id : ℕ) (y : Shown) → Shows t asker id y → y ≡ ask_record (after fresh cs) asker id
+  pub record_of : (asker : List ℕ) (id : ℕ) (y : Result Shown Refusal) → Shows t asker id y → y ≡ ask_record (after fresh cs) asker id
   -- an actor's history: how many, and the lent buffer afterwards
   pub history : (actor before later : List ℕ) (y : Result ℕ Refusal) → Lists t actor before y later →
       (y ≡ ask_history (after fresh cs) actor (length before)) × (later ≡ history_in (after fresh cs) actor before)

@@ -11,7 +11,7 @@ use Rattle.lists.specs.Searches.{same}
 use Rattle.lists.proofs.Searches.{same_refl}
 use Rattle.lists.proofs.All.{All, all_none, all_more, all_also}
 use Rattle.lists.proofs.Sums.{over_ext}
-use Rattle.refusals.specs.Tests.{first_met, decide, Verdict, pass}
+use Rattle.refusals.specs.Tests.{first_met, decide, Verdict}
 use Rattle.calendar.specs.Steps.{steps_of}
 use Rattle.calendar.specs.Clocks.{counts}
 use Rattle.ledger.specs.Ledger.{Ledger, fresh}

@@ -131,7 +131,7 @@ module _ (r : Register) (u : List ℕ) (note : Notification) where
         sized = z;
         is = note_refused r SevenDays u note at placed (Err f) e f refl;
       }
-  by_places z (Ok u) e =
+  by_places z (Ok t) e =
       let can = fileable_of r.head r.columns r.loads SevenDays at ps (sym e) in
       let s = z.records in
       let done = record_done r.head r.loads r.columns at ps _ _ _ _ _ (made z can).next (made z can).after can
@@ -151,7 +151,7 @@ module _ (r : Register) (u : List ℕ) (x : Result Notification Refusal) where
   by_reading : Sized r → (v : Verdict) → verdict x ≡ v → Seen r (does_reading r SevenDays u x)
   by_reading z (Err f) e =
       record { head = r.head; columns = r.columns; answer = Err f; sized = z; is = reading_refused r SevenDays u x f e }
-  by_reading z (Ok u) e =
+  by_reading z (Ok t) e =
       let y = by_places r u (note_of x) z _ refl in
       record { head = y.head; columns = y.columns; answer = y.answer; sized = y.sized; is = reading_passed r SevenDays u x e _ y.is }
 

@@ -1,10 +1,10 @@
 -- A REFUSED CALL LEAVES THE REGISTER AS IT CAME IN, every byte of its head and of its lent columns, reached or not: read off what the called
 -- function ensures.
-use Rattle.std.specs.Prelude.{Err}
+use Rattle.std.specs.Prelude.{Err, Ok}
 use mathlib.Core.Path.{◌≡◌, refl, ◌∙◌, ap}
 use native.Mathlib.Omega.{arith}
 use Prim.Native.Nat.{ℕ}
-use Rattle.refusals.specs.Tests.{decide, Verdict, pass}
+use Rattle.refusals.specs.Tests.{decide, Verdict}
 use Rattle.refusals.specs.declared.Refusal.{Refusal}
 use Rattle.ledger.specs.Call.{Call, enrol_actor, enrol_category, load, file, advance}
 use Rattle.ledger.specs.Ledger.{Ledger}

@@ -8,7 +8,7 @@ use native.Mathlib.Omega.{arith}
 use Prim.Native.Nat.{ℕ}
 use lib.ListN.{length, take, drop}
 use lib.Seq.{take-append_seam}
-use Rattle.refusals.specs.Tests.{first_met, decide, Verdict, pass}
+use Rattle.refusals.specs.Tests.{first_met, decide, Verdict}
 use Rattle.ledger.specs.Ledger.{Ledger, fresh}
 use Rattle.ledger.specs.Call.{Answered, Call}
 use Rattle.ledger.specs.Asking.{history_of, history_tests, ask_history, history_in}

@@ -113,8 +113,8 @@ pub data Engages : Register → List ℕ → List ℕ → ℕ → ℕ → Result
       a.1.1.1.1.1.1.1.0.now a.1.1.1.1.1.1.1.1.0.now a.1.1.1.1.1.1.1.1.1.0 a.1.1.1.1.1.1.1.1.1.1.0 y
 
 -- what the record call answers of a register; the loads are not lent to it
-pub data Shows : Register → List ℕ → ℕ → Shown → Type 1 where
-  shows : (ls : LoadColumns) (κs : Lifetimes.Lfts 6) (a : World.ArgsD record-fn.signature κs) (y : Shown)
+pub data Shows : Register → List ℕ → ℕ → Result Shown Refusal → Type 1 where
+  shows : (ls : LoadColumns) (κs : Lifetimes.Lfts 6) (a : World.ArgsD record-fn.signature κs) (y : Result Shown Refusal)
       (s : Clauses.AtExit (Kinds.ended_of 6 record-kinds.ps record-kinds.r) κs) → (record-reads.Asked κs a → record-reads.Post κs a y s) →
       Shows
       (lent a.0 (columns a.1.0.now a.1.1.0.now a.1.1.1.0.now a.1.1.1.1.0.now a.1.1.1.1.1.0.now) ls)
@@ -189,7 +189,7 @@ ran_after (more {c = c} q k) l e =
 pub engages_is : {r : Register} {a z : List ℕ} {d s : ℕ} {y : Result ℕ Refusal} → Engages r a z d s y → y ≡ ask_engagement (held r) a z d s
 engages_is (engages ids approved κs a y s e) = e (asks_nothing.engagement κs a) ids approved
 
-pub shows_is : {r : Register} {asker : List ℕ} {id : ℕ} {y : Shown} → Shows r asker id y → y ≡ ask_record (held r) asker id
+pub shows_is : {r : Register} {asker : List ℕ} {id : ℕ} {y : Result Shown Refusal} → Shows r asker id y → y ≡ ask_record (held r) asker id
 shows_is (shows ls κs a y s e) = e (asks_nothing.record_of κs a) ls
 
 pub lists_is : {r : Register} {actor before later : List ℕ} {y : Result ℕ Refusal} → Lists r actor before y later →

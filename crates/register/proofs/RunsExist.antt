@@ -57,7 +57,7 @@ pub record Exists (cols : Columns) (ls : LoadColumns) (cs : List Call) : Type 1 
   pub begun : Begun start
   pub run : Run (lent start.head cols ls) cs
   pub engagement : (actor category : List ℕ) (day s : ℕ) → (y : Result ℕ Refusal) × Engages run.register actor category day s y
-  pub record_of : (asker : List ℕ) (id : ℕ) → (y : Shown) × Shows run.register asker id y
+  pub record_of : (asker : List ℕ) (id : ℕ) → (y : Result Shown Refusal) × Shows run.register asker id y
   pub history : (actor before : List ℕ) → (y : Result ℕ Refusal) × (later : List ℕ) × Lists run.register actor before y later
 
 pub every_list_runs : (cols : Columns) (ls : LoadColumns) → RecordsSized cols → LoadsSized ls → (cs : List Call) → Exists cols ls cs

@@ -1,5 +1,5 @@
 -- What the record call shows: the codes and the category of a record, the record of an id, and what refuses to show it.
-use Rattle.std.specs.Prelude.{is_none, Ok, unwrap_or, Err, None, Option, Some, is_some}
+use Rattle.std.specs.Prelude.{is_none, Ok, unwrap_or, Err, None, Option, Some}
 use mathlib.Core.Path.{◌≡◌, refl, sym, ap, ◌∙◌}
 use mathlib.Core.Bool.{true, false, cond, not, true≢false}
 use mathlib.Core.List.{List, [], ◌∷◌, map}
@@ -10,10 +10,10 @@ use lib.ListN.{length, get_or, take, replicate, get_or-eq_default, get_or-map}
 use lib.Seq.{get_or-take}
 use borrow.Author.Tests.{lt-ltb, le-ltb}
 use Rattle.calendar.specs.Steps.{steps_of}
-use Rattle.refusals.specs.Tests.{Test, state, first_met, Verdict, pass}
+use Rattle.refusals.specs.Tests.{Test, state, first_met, pass}
 use Rattle.refusals.specs.declared.Refusal.{Refusal}
 use Rattle.refusals.specs.declared.StateRefusal.TheVariants.{ActorUnknown, NoRecord, NotAsker}
-use Rattle.refusals.proofs.Tests.{pass_all, tried_all, tried_first}
+use Rattle.refusals.proofs.Tests.{pass_all}
 use Rattle.notification.specs.Forms.{six_bytes, category_text}
 use Rattle.ledger.specs.Ledger.{Rec, actor_at}
 use Rattle.ledger.specs.Filing.{nobody}
@@ -71,11 +71,10 @@ module _ (h : Head) (cols : Columns) (loads : LoadColumns) (i n : ℕ) where
 -- ---- a record by its id
 
 -- a record that is found has a place in the columns
-pub found_below : (ids : List ℕ) (id n : ℕ) (f : Option ℕ) → f ≡ last_below (λ j. eqb (get_or ids j 0) id) (min n 256) → unwrap_or f 0 < 256
-found_below ids id n (Some i) e =
+pub found_below : (ids : List ℕ) (id n i : ℕ) → Some i ≡ last_below (λ j. eqb (get_or ids j 0) id) (min n 256) → i < 256
+found_below ids id n i e =
     let b : i < min n 256 = (last_below_lem (λ j. eqb (get_or ids j 0) id) (min n 256) i (sym e)).0 in
     omega arith
-found_below ids id n None e = omega arith
 
 -- 40 and 41, by what is found, after 22
 abbrev found_tried : Columns → ℕ → Option ℕ → List Test

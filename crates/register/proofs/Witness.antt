@@ -50,7 +50,8 @@ answers = demand2_of_calls ran.start ran.begun zeros no_loads calls ran.run.answ
 
 -- every call of the list is accepted, and the second filing is validated
 pub accepted : ran.run.answers ≡
-    Held 1 ∷ Held 1 ∷ Held 1 ∷ Held 2 ∷ Held 2 ∷ Held 3 ∷ Filed 1 created 0 ∷ Filed 2 validated 0 ∷ Moved ∷ Filed 3 created 33 ∷ []
+    Ok (Held 1) ∷ Ok (Held 1) ∷ Ok (Held 1) ∷ Ok (Held 2) ∷ Ok (Held 2) ∷ Ok (Held 3) ∷ Ok (Filed 1 created 0) ∷ Ok (Filed 2 validated 0) ∷ Ok Moved
+    ∷ Ok (Filed 3 created 33) ∷ []
 accepted = answers.answered ∙ met.accepted
 
 -- ceder and acquirer after it

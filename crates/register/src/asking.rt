@@ -1,4 +1,5 @@
-// The read-only calls but for a record by its id: an actor's engagement at a step, and its history.
+// The read-only calls but for a record by its id: an actor's engagement at a step, and its history. Each column is a
+// parameter of its own, as C lends them.
 ghost use Rattle.std.specs.Prelude.{◌≡◌, List, ℕ, ◌-◌, length};
 ghost use Rattle.refusals.specs.Tests.{first_met};
 ghost use Rattle.ledger.specs.Ledger.{actor_at, category_at};

@@ -1,4 +1,5 @@
-// Filing: a form is read; what was read is judged and recorded.
+// Filing: a form is read; what was read is judged and recorded. Each column that is written is a parameter of its own,
+// as C lends them.
 ghost use Rattle.std.specs.Prelude.{◌≡◌};
 ghost use Rattle.ledger.specs.Call.{csv, json, read_form, file};
 ghost use Rattle.ledger.specs.Filing.{status_by};

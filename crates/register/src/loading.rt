@@ -1,4 +1,4 @@
-// Loading an actor's powers for a category and a day.
+// Loading an actor's powers for a category and a day. Each column is a parameter of its own, as C lends them.
 ghost use Rattle.std.specs.Prelude.{◌≡◌, List, ℕ, leb};
 ghost use Rattle.lists.specs.Searches.{every};
 ghost use Rattle.refusals.specs.Tests.{first_met};

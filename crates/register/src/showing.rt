@@ -1,4 +1,4 @@
-// A record by its id, shown to an actor who is a party to it.
+// A record by its id, shown to an actor who is a party to it. Each column is a parameter of its own, as C lends them.
 ghost use Rattle.std.specs.Prelude.{◌≡◌, List, ℕ, ◌<◌};
 ghost use Rattle.notification.specs.Forms.{six_bytes, category_text};
 ghost use Rattle.ledger.specs.Asking.{code_at, category_of, shown, ask_record};
@@ -94,10 +94,8 @@ impl Head {
             loads) asker.now id }
     {
         let a = self.actors.place(asker);
-        let found = find_id(ids, self.records, id);
-        let i = found.unwrap_or(0);
         refuse_if(!(a < self.actors.len()), StateRefusal::ActorUnknown)?;
-        refuse_if(found.is_none(), StateRefusal::NoRecord)?;
+        let i = find_id(ids, self.records, id).ok_or(StateRefusal::NoRecord)?;
         refuse_if(!is_party(keys[i as usize], a), StateRefusal::NotAsker)?;
         let records = Records {
             statuses,

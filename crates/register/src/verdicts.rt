@@ -174,8 +174,8 @@ impl Head {
             loads.numbers,
             self.loads,
             load_number(at.ceder, at.category, day),
-        );
-        refuse_if(ceders.is_none(), StateRefusal::NoLoad)?;
+        )
+        .ok_or(StateRefusal::NoLoad)?;
         let acquirers = last_of(
             loads.numbers,
             self.loads,
@@ -189,7 +189,7 @@ impl Head {
             under,
             records,
             loads.rows,
-            ceders,
+            Some(ceders),
             acquirers,
             at,
         );
@@ -197,7 +197,7 @@ impl Head {
             &ceder,
             &acquirer,
             ps,
-            approved_of(loads.approved, ceders),
+            approved_of(loads.approved, Some(ceders)),
             approved_of(loads.approved, acquirers),
             self.clock.first_counted(day),
             steps_of(day),

@@ -1,5 +1,5 @@
 -- ANSWERS AS FLAT RECORDS, for programs in C and Rust: a refusal's number and place, 0 and 0 where there is none, and the result.
-use Rattle.std.specs.Prelude.{ℕ, [], Option, Some, None, Result, Ok, Err, replicate}
+use Rattle.std.specs.Prelude.{ℕ, Option, Some, None, Result, Ok, Err, replicate}
 use Rattle.calendar.specs.Dates.{day_count}
 use Rattle.refusals.specs.Numbers.{number_of, place_of}
 use Rattle.refusals.specs.declared.Refusal.{Refusal}

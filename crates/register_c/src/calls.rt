@@ -131,7 +131,8 @@ pub extern "C" fn register_head_file_object(
 #[unsafe(no_mangle)]
 pub extern "C" fn register_head_advance(head: Head, day: u32, minute: u32) -> Turn
     ensures { (columns : Columns) (loads : LoadColumns) →
-        tells (lent result.head columns loads) result.said ≡ told (does (lent head columns loads) (advance day minute)) }
+        tells (lent result.head columns loads) result.said
+        ≡ told (does (lent head columns loads) (advance day minute)) }
 {
     let reply = head.advance(day, minute);
     turned(reply)

@@ -1,6 +1,7 @@
 // Calls of the system that are made again where they were only put off. A proved loop has to end, and nothing says that
 // a call goes through: so the turns are counted, up to a number that no run uses up. Reading and writing have a loop
-// each: of a closure that calls one or the other, no contract could say that its count lies in the buffer that it holds.
+// each: of a closure that calls one or the other, no contract could say that its count lies in the buffer that it
+// holds.
 ghost use Rattle.std.specs.Io.{ReadsAtMost, WritesAtMost};
 
 use crate::pausing::pause;

@@ -59,7 +59,12 @@ fn put_key(rt: &impl Print, key: Key) -> io::Result<()> {
 // A record: status, from-step, until-step, submitter, key, powers.
 fn put_record(rt: &impl Print, shown: Shown) -> io::Result<()> {
     let n = shown.notification;
-    print!(rt; "ok {} {} {}", char::from(shown.status), shown.from, shown.until)?;
+    print!(rt;
+        "ok {} {} {}",
+        char::from(shown.status),
+        shown.from,
+        shown.until
+    )?;
     put_code(rt, &shown.submitter)?;
     put_key(rt, n.key)?;
     put_powers(rt, &n.powers, n.steps)

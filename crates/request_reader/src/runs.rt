@@ -115,8 +115,8 @@ fn run<F: Fn(usize, usize) -> Option<(u16, usize)>>(
     let stop = run_end(steps, t.lines) as usize;
     let mut i = half_hours(steps, t.lines) as usize * 10;
     let mut at = from.at;
-    // By hand: how many steps were taken is the answer, which a `for` counts beside its own (tried: two instructions more
-    // for each step).
+    // By hand: how many steps were taken is the answer, which a `for` counts beside its own (tried: two instructions
+    // more for each step).
     while k < stop {
         let Some((power, n)) = front(at, i) else {
             break;

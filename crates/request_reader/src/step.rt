@@ -1,11 +1,13 @@
 // A step of an object: its two labels, held against those of its place in the day, and its power.
-ghost use Rattle.std.specs.Prelude.{true, false, ◌&&◌, ◌≡◌, [], ◌∷◌, ◌++◌, ◌-◌, ◌≤◌, length, get_or, take, drop, MatchOption};
+ghost use Rattle.std.specs.Prelude.{true, false, ◌&&◌, ◌≡◌, [], ◌∷◌, ◌++◌, ◌-◌, ◌≤◌};
+ghost use Rattle.std.specs.Prelude.{length, get_or, take, drop, MatchOption};
 ghost use Rattle.lists.specs.Searches.{every, same};
 ghost use Rattle.notification.specs.Forms.{is_digit};
 ghost use Rattle.request.specs.Tokens.{is_blank, quoted_by};
 ghost use Rattle.request.specs.Reading.{is_label_byte};
 ghost use Rattle.request_reader.specs.Walking.{Missing, WalkSays, between, framed, is_quoted};
-ghost use Rattle.request_reader.specs.Steps.{LabelAt, PowerAt, StepAt, front_tests, label_tests, power_of, power_tests, said_of};
+ghost use Rattle.request_reader.specs.Steps.{LabelAt, PowerAt, StepAt, front_tests, label_tests};
+ghost use Rattle.request_reader.specs.Steps.{power_of, power_tests, said_of};
 
 use crate::tokens::{Found, after_mark, is_framed, run_to, value_from};
 use crate::words::same_text;

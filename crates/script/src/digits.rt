@@ -21,6 +21,7 @@ fn count_of(n: u64) -> usize
     }
     let mut count: usize = 5;
     let mut rest = n / 10000;
+    // Each turn takes a digit off.
     while 10 <= rest {
         count += 1;
         rest /= 10;
@@ -36,6 +37,7 @@ pub(crate) fn put_number(out: &mut [u8], at: usize, n: u64) -> usize
     let end = at + count_of(n);
     let mut rest = n;
     for place in (at..end).rev() {
+        // A digit fits a byte.
         out[place] = b'0' + (rest % 10) as u8;
         rest /= 10;
     }

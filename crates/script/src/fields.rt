@@ -1,5 +1,5 @@
-// The fields of a line: where they end. A place goes as a number that the line reaches to: a struct that kept this would
-// be made anew at each comma.
+// The fields of a line: where they end. A place goes as a number that the line reaches to: a struct that kept this
+// would be made anew at each comma.
 ghost use Rattle.std.specs.Prelude.{◌≤◌, length};
 ghost use Rattle.script.specs.Walking.{FieldEnd, CommaFound};
 

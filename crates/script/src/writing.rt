@@ -28,6 +28,7 @@ fn put_value(out: &mut [u8], at: usize, letter: bool, v: u32) -> usize
 {
     out[at] = b',';
     if letter {
+        // A letter is a byte.
         out[at + 1] = (v % 256) as u8;
         return at + 2;
     }
@@ -40,6 +41,7 @@ fn put_values(out: &mut [u8], at: usize, letter: u32, count: u32, values: [u32; 
     ensures { Placed out.old at (values_text letter 0 (take count values)) out.new result
         × (result ≤ at + 33) }
 {
+    // An answer's count and letter have 32 bits, as C has them.
     let given = &values[..values.len().min(count as usize)];
     let mut next = at;
     for (i, value) in given.iter().enumerate() {

@@ -11,7 +11,8 @@ use ledger::Actor;
 // The places for actors.
 pub const ACTORS: u32 = 8;
 
-// How many actors there are, and who; places past the count mean nothing.
+// How many actors there are, and who; places past the count mean nothing. It stands in C's layout, so that it is no
+// generic table, which the categories could share.
 #[repr(C)]
 #[derive(Clone, Copy)]
 pub struct Actors {
@@ -34,7 +35,8 @@ impl Actors {
         self.count.min(ACTORS)
     }
 
-    // The place of the actor with this code; the number of actors where there is none.
+    // The place of the actor with this code; the number of actors where there is none, and no Option: so it is in the
+    // ledger's `actor_at`, which the contract names.
     pub fn place(self, code: &[u8]) -> u32
         ensures { result ≡ actor_at (actors_in self) code.now }
     {

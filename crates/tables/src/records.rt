@@ -6,7 +6,7 @@ ghost use Rattle.tables.specs.Tables.{key_number};
 // The places for records.
 pub const RECORDS: u32 = 256;
 
-// The statuses, by their letters.
+// The statuses, by their letters: bytes and no enum, as C lends them in a column and reads them in answers.
 pub const CREATED: u8 = b'C';
 
 pub const ANSWERED: u8 = b'A';

@@ -4,4 +4,3 @@ pub mod StepTexts
 pub mod StepLines
 pub mod Pieces
 pub mod Answers
-pub mod Tested

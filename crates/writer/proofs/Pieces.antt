@@ -24,21 +24,8 @@ use Rattle.writer.proofs.Placed.{placed_length, placed_end, placed_join}
 
 module _ (by : ℕ) (k : Key) (buffer : List ℕ) (at : ℕ) (room : at + length (key_start by k) ≤ length buffer)
     (date : List ℕ) (e : date ≡ text_of k.day) where
-  start_lengths : length (key_start by k) ≡ length k.ceder + 1 + (length k.acquirer + 1) + (length date + 1)
-  start_lengths = rw e (simp length-append)
-
-  pub room_ceder : at + length k.ceder < length buffer
-  room_ceder = omega (arith, start_lengths)
-
   module _ (b : List ℕ) (second : ℕ) (p : Placed buffer at (k.ceder ++ by ∷ []) b second) where
-    pub room_acquirer : second + length k.acquirer < length b
-    room_acquirer = omega (arith, start_lengths, placed_length p, p.follows, length-append k.ceder (by ∷ []))
-
     module _ (c : List ℕ) (third : ℕ) (q : Placed b second (k.acquirer ++ by ∷ []) c third) where
-      pub room_date : third + length date < length c
-      room_date =
-          omega (arith, start_lengths, placed_length p, p.follows, length-append k.ceder (by ∷ []), placed_length q, q.follows, length-append k.acquirer (by ∷ []))
-
       pub start_placed : (d : List ℕ) (end : ℕ) → Placed c third (date ++ by ∷ []) d end → Placed buffer at (key_start by k) d end
       start_placed d end r = placed_join (placed_join p q) (rw e at r)
 

@@ -1,5 +1,5 @@
 -- A step's line, in the pieces that it is written in.
-use mathlib.Core.Path.{◌≡◌, refl, sym, ap, ◌∙◌}
+use mathlib.Core.Path.{◌≡◌, refl, ap, ◌∙◌}
 use mathlib.Core.List.{List, [], ◌∷◌, ◌++◌, append_assoc}
 use Prim.Native.Nat.{ℕ, suc, ◌+◌, ◌/◌, ◌%◌, ◌<◌, ◌≤◌}
 use native.Mathlib.Numerals.{add-one}
@@ -116,9 +116,6 @@ module _ (steps step p : ℕ) (buffer : List ℕ) (at : ℕ) (room : at + length
   line_lengths : length (step_text steps step p) ≡ length (labels_text steps step) + length (power_text p) + 1
   line_lengths = simp length-append (omega arith)
 
-  pub room_labels : at + length (labels_text steps step) ≤ length buffer
-  room_labels = omega (arith, line_lengths)
-
   module _ (b : List ℕ) (second : ℕ) (l : Placed buffer at (labels_text steps step) b second) where
     pub room_power : second + length (power_text p) ≤ length b
     room_power = omega (arith, line_lengths, placed_length l, l.follows)
@@ -136,9 +133,6 @@ module _ (steps step p : ℕ) (buffer : List ℕ) (at : ℕ) (room : at + length
 module _ (p : ℕ) (bytes : List ℕ) (len : ℕ) (e : Digited p bytes len) where
   pub digits_few : len ≤ length bytes
   digits_few = omega (arith, e.1, e.2, digits_length p)
-
-  pub room_digits : len ≡ length (take len bytes)
-  room_digits = e.1 ∙ ap length (sym e.0)
 
   pub power_room : (at room : ℕ) → at + length (power_text p) ≤ room → at + length (take len bytes) < room
   power_room at room h = omega (arith, ap length e.0, length-append (digits p) (59 ∷ []))

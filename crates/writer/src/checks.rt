@@ -39,6 +39,7 @@ fn all_powers(powers: &[u16]) -> bool
 }
 
 // Whether each power from a place on is 0.
+#[tactic(auto, unfolding(notification::specs::Forms::all_zero))]
 fn zeros_from(powers: &[u16], from: usize) -> bool
     ensures { result ≡ all_zero (drop from powers.now) }
 {

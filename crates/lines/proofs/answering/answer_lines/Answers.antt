@@ -27,6 +27,16 @@ returns-then-not-has_room c =
     let e = c.in-Some.ensures in
     at_room c.loop-stop.invariant.1 e.0 e.1 c.has_room.ensures c.if-not-has_room.true
 
+pub overflow_add-name : goal.overflow_add-name
+overflow_add-name c =
+    let f = sym c.names_file.ensures ∙ c.if-names_file.true in
+    omega (arith, (named_read _ c.read_line-read.ensures f).inside, c.in-Some.ensures)
+
+pub overflow_add-wants : goal.overflow_add-wants
+overflow_add-wants c =
+    let f = sym c.names_file.ensures ∙ c.if-names_file.true in
+    omega (arith, (named_read _ c.read_line-read.ensures f).inside, c.in-Some.ensures.0.after, c.in-Some.ensures)
+
 pub returns-in_default-given : goal.returns-in_default-given
 returns-in_default-given c =
     let e = c.in-Some.ensures in

@@ -16,10 +16,10 @@ module _ (c : After-byte_from-end) where
   ended : LineEnd c.args.body.now c.args.from c.byte_from-end.result
   ended = line_ends _ c.requires.0 c.byte_from-end.ensures
 
-pub returns-then-t-ne0 : goal.returns-then-t-ne0
-returns-then-t-ne0 c =
+pub returns-then-t-ne-NO_LINE : goal.returns-then-t-ne-NO_LINE
+returns-then-t-ne-NO_LINE c =
     let a = c.args in record {
-      by_index = λ steps powers. sym (lines_stay steps (with_powers a.t powers) (lines_in (drop a.from a.body.now)) c.if-t-ne0.true c.requires.1);
+      by_index = λ steps powers. sym (lines_stay steps (with_powers a.t powers) (lines_in (drop a.from a.body.now)) c.if-t-ne-NO_LINE.true c.requires.1);
       at_value = c.rest_start-at.ensures;
     }
 
@@ -41,6 +41,6 @@ pub returns : goal.returns
 returns c =
     let a = c.args in record {
       by_index = other_taken a.body.now a.from _ (ended (goal.at.returns c).After-byte_from-end) c.if-body-end.false a.t c.other_header.result
-          c.if-t-ne0.false c.other_header.ensures;
+          c.if-t-ne-NO_LINE.false c.other_header.ensures;
       at_value = c.rest_start-at.ensures;
     }

@@ -11,6 +11,6 @@ returns c =
     let a = c.args in
     let e = sym i.ensures ∙ c.if-not-is_headed.false in
     let p = header_passed a.header.now a.body.now a.from a.t
-    (first_said a.header.now (drop a.from a.body.now) a.t.header true c.if-t-ne0.false e)
-    (headed_long a.header.now a.body.now a.from c.requires.2 e) in
+    (first_said a.header.now (drop a.from a.body.now) a.t.header true c.if-t-ne-NO_LINE.false e)
+    (headed_long a.header.now a.body.now a.from c.requires e) in
     record { tally_value = p.0; body_value = p.1.0; at_in_bounds = p.1.1 }

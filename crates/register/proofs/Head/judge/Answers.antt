@@ -1,12 +1,9 @@
 -- `Head::judge` meets its contract: the three parts, one after the other, and the free place.
 use mathlib.Core.Path.{◌≡◌, sym, ap, ◌∙◌}
 use mathlib.Core.List.{List, [], ◌∷◌}
-use mathlib.Core.Bool.{not}
 use Prim.Native.Nat.{ℕ}
-use lib.Dec.{ltb}
 use Rattle.std.proofs.lemmas.Result.{err_from_is_err_and, IfOk-at_ok}
 use Rattle.refusals.specs.Tests.{Verdict, Test, tried, state, first_met, verdict}
-use Rattle.refusals.specs.declared.StateRefusal.TheVariants.{Full}
 use Rattle.ledger.specs.Filing.{full_test, place_tests, load_test, step_tests}
 use Rattle.tables.specs.Lent.{columns_of, loads_of}
 use Rattle.register.specs.View.{view}

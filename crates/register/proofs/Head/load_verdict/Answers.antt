@@ -9,7 +9,7 @@ use Rattle.std.proofs.lemmas.Result.{err_from_is_err_and}
 use Rattle.refusals.specs.Tests.{state, input, first_met, pass}
 use Rattle.refusals.specs.declared.StateRefusal.TheVariants.{There, Full}
 use Rattle.ledger.specs.Calls.{load_tests}
-use Rattle.tables.specs.Tables.{Columns, LoadColumns, load_columns}
+use Rattle.tables.specs.Tables.{Columns, load_columns}
 use Rattle.register.specs.View.{view}
 use Rattle.register.proofs.Trying.{refuses, goes_on}
 use Rattle.register.proofs.Filings.{actors_few, categories_few}

@@ -1,5 +1,5 @@
 -- `Head::steps_fit` meets its contract: the loads that the searches find, and the sums by which the ledger judges.
-use mathlib.Core.Path.{◌≡◌, sym, ap, ◌∙◌}
+use mathlib.Core.Path.{◌≡◌, sym, ◌∙◌}
 use mathlib.Core.List.{List, [], ◌∷◌}
 use Prim.Native.Nat.{ℕ}
 use native.Mathlib.Omega.{arith}
@@ -10,7 +10,7 @@ use Rattle.ledger.specs.Filing.{load_test, step_tests}
 use Rattle.tables.specs.Lent.{columns_of, loads_of}
 use Rattle.register.specs.View.{view}
 use Rattle.register.specs.Judging.{key_at}
-use Rattle.register.proofs.Trying.{none_told}
+use Rattle.request_reader.proofs.ObjectReads.{not_found}
 use Rattle.register.proofs.Days.{load_refused, load_passed}
 use Rattle.register.proofs.Fits.{fits_is}
 use Rattle.register.proofs.Head.steps_fit.Goals as goal
@@ -19,14 +19,15 @@ use Rattle.register.proofs.Head.steps_fit.Goals.{After-step_verdict}
 pub load_number-requires : goal.load_number-requires
 load_number-requires c = let j = c.requires.0 in (j.ceder, j.category, j.day)
 
-pub returns-in_err-refuse_if : goal.returns-in_err-refuse_if
-returns-in_err-refuse_if c =
+pub returns-in_err-ceders : goal.returns-in_err-ceders
+returns-in_err-ceders c =
     let a = c.args in
     let j = c.requires.0 in
     let p = err_from_is_err_and c.from_residual.result c.from_residual.ensures.1 in
-    rw (p.1, p.2) (
+    let e = c.in_err-ceders.ensures in
+    rw (p.1, p.2, not_found c.last_of.result _ _ e.ok_part e.value) (
       (λ ids. load_refused a.self (columns_of a.records ids) (loads_of a.loads) (key_at a.at) _ _ j.ceder j.category
-          c.load_number.ensures c.last_of-ceders.ensures _ (rw (none_told _ _ c.is_none.ensures) at c.in_err-refuse_if.ensures) a.ps.now),
+          c.load_number.ensures c.last_of.ensures e.ok_part a.ps.now),
       tt,
     )
 
@@ -52,12 +53,13 @@ judged c ids =
     let cols = columns_of a.records ids in
     let loads = loads_of a.loads in
     let number = c.load_number.ensures in
-    let found = c.last_of-ceders.ensures in
+    let some = c.in_ok-ceders.ensures.ok_part in
+    let found = c.last_of.ensures in
     c.step_verdict.ensures
     ∙ fits_is a.self cols loads a.at a.ps.now j _ _ c.first_counted.ensures c.steps_of.ensures
-    _ _ number c.load_number-2.ensures _ _ found c.last_of-acquirers.ensures _ (c.nets_of-count.ensures.0 ids)
+    _ _ number c.load_number-2.ensures _ _ (sym some ∙ found) c.last_of-acquirers.ensures _ (c.nets_of-count.ensures.0 ids)
     _ _ c.approved_of.ensures.0 c.approved_of-2.ensures.0
-    ∙ load_passed a.self cols loads (key_at a.at) _ _ j.ceder j.category number found _ (rw (none_told _ _ c.is_none.ensures) at c.in_ok-refuse_if.ensures) a.ps.now
+    ∙ load_passed a.self cols loads (key_at a.at) _ _ j.ceder j.category number found _ some a.ps.now
 
 pub returns-in_err-step_verdict : goal.returns-in_err-step_verdict
 returns-in_err-step_verdict c =
