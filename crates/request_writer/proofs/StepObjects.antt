@@ -45,9 +45,6 @@ module _ (p : ℕ) (text : List ℕ) (e : text ≡ digits p) (buffer : List ℕ)
   power_room = room_first at its_power (125 ∷ []) room_both
 
   module _ (b : List ℕ) (n : ℕ) (q : Placed buffer at its_power b n) where
-    pub power_end_lem : n + 1 ≤ length b
-    power_end_lem = room_second (125 ∷ []) q room_both
-
     pub power_placed : (c : List ℕ) (m : ℕ) → Placed b n (125 ∷ []) c m → Placed buffer at (power_object p) c m
     power_placed c m s = rw e at (placed_join q s)
 
