@@ -1,6 +1,6 @@
 -- One record passed: one under the filing's own key, one that moves nothing for ceder and acquirer, one that is applied
 -- to their nets. And all records up to the next of the filing's category and day.
-use Rattle.std.proofs.Common.{◌≡◌, ℕ, ◌+◌, ◌/◌, ◌%◌, ◌<◌, ◌≤◌, Bool, true, false, not, ◌&&◌, eqb, List, [], length, get_or, set, refl, ◌∙◌, subst, arith, length-set}
+use Rattle.std.proofs.Common.{◌≡◌, ℕ, ◌+◌, ◌/◌, ◌%◌, ◌<◌, ◌≤◌, Bool, true, false, not, ◌&&◌, eqb, List, [], length, get_or, set, refl, subst, arith, length-set}
 use Rattle.tables.specs.Tables.{Columns, columns}
 use Rattle.tables.specs.Passing.{in_market, is_under, PlacesOf}
 use Rattle.tables.proofs.Fours.{Next}
@@ -78,16 +78,14 @@ module _ (statuses keys : List ℕ) (marks rows : List (List ℕ)) (own first un
     pub ceder_net : (ids : List ℕ) → Netting (named ids) own (own / 8 % 8) ceder first until i is.ceder
     pub acquirer_net : (ids : List ℕ) → Netting (named ids) own (own % 8) acquirer first until i is.acquirer
     pub under : PlacesOf (is_under keys own) i is.count is.places
-    pub long : length is.places ≡ 256
 
   pub passed_none : (places : List ℕ) → Between ceder base (base + 65535) → Between acquirer base (base + 65535) →
-      length places ≡ 256 → PassedTo 0 (record { ceder = ceder; acquirer = acquirer; places = places; count = 0 })
-  passed_none places c a l =
+      PassedTo 0 (record { ceder = ceder; acquirer = acquirer; places = places; count = 0 })
+  passed_none places c a =
       record {
         ceder_net = λ ids. netting_none (named ids) own (own / 8 % 8) ceder first until c;
         acquirer_net = λ ids. netting_none (named ids) own (own % 8) acquirer first until a;
         under = listed_none (is_under keys own) places;
-        long = l;
       }
 
   -- all up to the next of the category and day
@@ -101,7 +99,6 @@ module _ (statuses keys : List ℕ) (marks rows : List (List ℕ)) (own first un
             netting_through (named ids) own (own % 8) acquirer first until i k is.acquirer next.from next.before
             (p.acquirer_net ids);
         under = listed_through keys own i k is.count is.places next.from next.before p.under;
-        long = p.long;
       }
 
   -- that one
@@ -112,7 +109,6 @@ module _ (statuses keys : List ℕ) (marks rows : List (List ℕ)) (own first un
         ceder_net = λ ids. (one ids).ceder ceder (p.ceder_net ids);
         acquirer_net = λ ids. (one ids).acquirer acquirer (p.acquirer_net ids);
         under = (one []).places p.under;
-        long = (one []).long ∙ p.long;
       }
 
   -- the nets stay where one more record can be applied

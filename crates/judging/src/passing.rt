@@ -1,6 +1,6 @@
 // Passing the records of a filing's category and day, once for all: those under its own key are listed, and the others
 // are applied to the nets of ceder and acquirer.
-ghost use Rattle.std.specs.Prelude.{◌≡◌, ℕ, ◌+◌, ◌/◌, ◌<◌, ◌≤◌, true, List, length};
+ghost use Rattle.std.specs.Prelude.{◌≡◌, ℕ, ◌+◌, ◌/◌, ◌<◌, ◌≤◌, true, List};
 ghost use Rattle.tables.specs.Lent.{columns_of};
 ghost use Rattle.tables.specs.Passing.{in_market, is_under, PlacesOf};
 ghost use Rattle.judging.specs.Nets.{base, Between, moves_for, PassedOne, Netted};
@@ -35,8 +35,7 @@ fn pass_record(
     until: u32,
 ) -> u32
     requires { ((i < 256) × (count ≤ i) × (until ≤ 50)) × (in_market records.keys.now (own / 64) i ≡ true)
-        × (length places.old ≡ 256) × Between ceder.old 65535 4294901760
-        × Between acquirer.old 65535 4294901760 }
+        × Between ceder.old 65535 4294901760 × Between acquirer.old 65535 4294901760 }
     ensures { (ids : List ℕ) → PassedOne
         (columns_of records.entry ids)
         own first until i
@@ -99,7 +98,7 @@ pub fn pass_records(
     until: u32,
 ) -> u32
     requires { (n ≤ 256) × (until ≤ 50) × Between ceder.old base (base + 65535)
-        × Between acquirer.old base (base + 65535) × (length places.old ≡ 256) }
+        × Between acquirer.old base (base + 65535) }
     ensures { ((ids : List ℕ) → Netted
         (columns_of records.entry ids)
         n own (record { ceder = ceder.old; acquirer = acquirer.old })

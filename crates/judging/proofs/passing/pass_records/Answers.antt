@@ -7,7 +7,7 @@ use Rattle.judging.proofs.Passed.{passed_none, passed_next, passed_more, passed_
 use Rattle.judging.proofs.passing.pass_records.Goals as goal
 
 pub loop-k-init : goal.loop-k-init
-loop-k-init c = let p = c.requires in (omega arith, passed_none _ _ _ _ _ _ _ _ _ _ p.2 p.3 p.4)
+loop-k-init c = let p = c.requires in (omega arith, passed_none _ _ _ _ _ _ _ _ _ _ p.2 p.3)
 
 pub pass_record-count-requires : goal.pass_record-count-requires
 pass_record-count-requires c =
@@ -24,13 +24,9 @@ pass_record-count-requires c =
     let between = passed_between _ _ _ _ _ _ _ _ _ k is m so in (
       (m, so.under.few, c.requires.1),
       next.passes (omega arith),
-      b.invariant.1.long,
       between.0,
       between.1,
     )
-
-pub overflow_add-i : goal.overflow_add-i
-overflow_add-i c = omega (arith, c.requires.0)
 
 pub loop-k-smaller : goal.loop-k-smaller
 loop-k-smaller c =
