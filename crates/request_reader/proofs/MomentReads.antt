@@ -3,17 +3,17 @@
 use mathlib.Core.Path.{◌≡◌, refl, sym, ap, ◌∙◌}
 use mathlib.Core.Bool.{Bool, true, false, ◌&&◌}
 use mathlib.Core.List.{List, [], ◌∷◌}
-use Prim.Native.Nat.{ℕ, zero, suc, ◌+◌, ◌-◌, ◌*◌, ◌/◌, ◌%◌, ◌<◌, ◌≤◌}
+use Prim.Native.Nat.{ℕ, zero, suc, ◌+◌, ◌*◌, ◌/◌, ◌%◌, ◌<◌, ◌≤◌}
 use native.Mathlib.Omega.{arith}
-use lib.Dec.{eqb, ltb, leb}
+use lib.Dec.{eqb, ltb}
 use lib.ListN.{length, get_or, drop, drop_of_length-le}
 use lib.Seq.{drop-cons}
-use borrow.Author.Tests.{ltb-true, lt-ltb, leb-true, eqb-true}
+use borrow.Author.Tests.{ltb-true, lt-ltb, eqb-true}
 use Rattle.std.specs.Prelude.{Some, None}
 use Rattle.std.proofs.lemmas.Option.{none-some}
 use Rattle.lists.proofs.Tests.{by_test, true_false, and_left, and_right}
 use Rattle.calendar.specs.Dates.{day_count}
-use Rattle.calendar.specs.Texts.{tens, ones, digit, text_of, pair_of, day_at, day_of}
+use Rattle.calendar.specs.Texts.{tens, ones, text_of, pair_of, day_at, day_of}
 use Rattle.calendar.proofs.Reading.{eight_read}
 use Rattle.calendar.proofs.TwoWays.{read_text, text_read, pair_digits, digits_pair}
 use Rattle.request.specs.Moments.{day_seconds, in_time, moment_text, moment_in, is_moment_text}
