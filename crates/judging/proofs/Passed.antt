@@ -1,22 +1,12 @@
--- One record passed: one under the filing's own key, one that moves nothing for ceder and acquirer, one that is applied
--- to their nets. And all records up to the next of the filing's category and day.
-use Rattle.std.proofs.Common.{◌≡◌, ℕ, ◌+◌, ◌/◌, ◌%◌, ◌<◌, ◌≤◌, Bool, true, false, not, ◌&&◌, eqb, List, [], length, get_or, set, refl, subst, arith, length-set}
+-- One record passed that is applied to the nets of ceder and acquirer. And all records up to the next of the filing's
+-- category and day.
+use Rattle.std.proofs.Common.{◌≡◌, ℕ, ◌+◌, ◌/◌, ◌%◌, ◌<◌, ◌≤◌, Bool, true, false, eqb, List, [], get_or, refl, subst, arith}
 use Rattle.tables.specs.Tables.{Columns, columns}
 use Rattle.tables.specs.Passing.{in_market, is_under, PlacesOf}
 use Rattle.tables.proofs.Fours.{Next}
-use Rattle.tables.proofs.Listing.{listed_none, listed_skip, listed_push}
-use Rattle.judging.specs.Nets.{base, Between, Applied, moves_for, concerns, Netted, Netting, Passing, PassedOne}
-use Rattle.judging.proofs.Netting.{netting_none, netting_same, netting_more, netting_between, netting_through, listed_through}
-
--- three tests, of which the second or the third fails
-own_not : (a b m : Bool) → b ≡ true → (a && not b && m) ≡ false
-own_not true b m e = rw e
-own_not false b m e = refl
-
-moves_not : (a b m : Bool) → m ≡ false → (a && not b && m) ≡ false
-moves_not true true m e = refl
-moves_not true false m e = e
-moves_not false b m e = refl
+use Rattle.tables.proofs.Listing.{listed_skip}
+use Rattle.judging.specs.Nets.{Between, Applied, moves_for, concerns, Netted, Netting, Passing, PassedOne}
+use Rattle.judging.proofs.Netting.{netting_more, netting_between, netting_through, listed_through}
 
 module _ (cols : Columns) (own first until i : ℕ) (ceder acquirer places : List ℕ) (count : ℕ) where
   abbrev key : ℕ
@@ -30,28 +20,6 @@ module _ (cols : Columns) (own first until i : ℕ) (ceder acquirer places : Lis
 
   abbrev before : Passing
   before = record { ceder = ceder; acquirer = acquirer; places = places; count = count }
-
-  pub passed_under : eqb key own ≡ true → count < length places →
-      PassedOne cols own first until i before
-      (record { ceder = ceder; acquirer = acquirer; places = set places count i; count = count + 1 })
-  passed_under e h =
-      let z : concerns key status own (own / 8 % 8) (own % 8) ≡ false = own_not (eqb (key / 64) (own / 64)) (eqb key own) moves e in
-      record {
-        ceder = λ start t. netting_same cols own (own / 8 % 8) start first until i ceder z t;
-        acquirer = λ start t. netting_same cols own (own % 8) start first until i acquirer z t;
-        places = λ l. listed_push (is_under cols.keys own) i count places l h;
-        long = length-set places count i;
-      }
-
-  pub passed_still : eqb key own ≡ false → moves ≡ false → PassedOne cols own first until i before before
-  passed_still e m =
-      let z : concerns key status own (own / 8 % 8) (own % 8) ≡ false = moves_not (eqb (key / 64) (own / 64)) (eqb key own) moves m in
-      record {
-        ceder = λ start t. netting_same cols own (own / 8 % 8) start first until i ceder z t;
-        acquirer = λ start t. netting_same cols own (own % 8) start first until i acquirer z t;
-        places = λ l. listed_skip (is_under cols.keys own) i count places l e;
-        long = refl;
-      }
 
   pub passed_applied : in_market cols.keys (own / 64) i ≡ true → eqb key own ≡ false → moves ≡ true → (c a : List ℕ) →
       Applied ceder (eqb (key % 8) (own / 8 % 8)) (eqb (key / 8 % 8) (own / 8 % 8)) (get_or cols.marks i []) (get_or cols.rows i []) first until c →
@@ -78,15 +46,6 @@ module _ (statuses keys : List ℕ) (marks rows : List (List ℕ)) (own first un
     pub ceder_net : (ids : List ℕ) → Netting (named ids) own (own / 8 % 8) ceder first until i is.ceder
     pub acquirer_net : (ids : List ℕ) → Netting (named ids) own (own % 8) acquirer first until i is.acquirer
     pub under : PlacesOf (is_under keys own) i is.count is.places
-
-  pub passed_none : (places : List ℕ) → Between ceder base (base + 65535) → Between acquirer base (base + 65535) →
-      PassedTo 0 (record { ceder = ceder; acquirer = acquirer; places = places; count = 0 })
-  passed_none places c a =
-      record {
-        ceder_net = λ ids. netting_none (named ids) own (own / 8 % 8) ceder first until c;
-        acquirer_net = λ ids. netting_none (named ids) own (own % 8) acquirer first until a;
-        under = listed_none (is_under keys own) places;
-      }
 
   -- all up to the next of the category and day
   pub passed_next : (i n k : ℕ) (is : Passing) → Next (in_market keys (own / 64)) i n k → PassedTo i is → PassedTo k is

@@ -135,8 +135,7 @@ impl Head {
         acquirers: Option<u32>,
         at: Places,
     ) -> u32
-        requires { Judgeable self at × (ceder.old ≡ replicate 50 base) × (acquirer.old ≡ replicate 50 base)
-            × (length under.old ≡ 256) }
+        requires { Judgeable self at × (ceder.old ≡ replicate 50 base) × (acquirer.old ≡ replicate 50 base) }
         ensures { ((ids : List ℕ) → NettedAt self
             (columns_of records.entry ids)
             rows.now ceders acquirers at
@@ -163,7 +162,7 @@ impl Head {
         at: Places,
         ps: &[u16; 50],
     ) -> Result<u32, Refusal>
-        requires { Judgeable self at × (length under.old ≡ 256) }
+        requires { Judgeable self at }
         ensures { ((ids : List ℕ) →
             let l = view self (columns_of records.entry ids) (loads_of loads.entry) in
             verdict result ≡ first_met (load_test l (key_at at) ∷ step_tests l (key_at at) ps.now))
@@ -216,7 +215,6 @@ impl Head {
         at: Places,
         ps: &[u16; 50],
     ) -> Result<u32, Refusal>
-        requires { length under.old ≡ 256 }
         ensures { ((ids : List ℕ) →
             verdict result ≡ first_met
             (place_tests (view self (columns_of records.entry ids) (loads_of loads.entry))

@@ -6,4 +6,5 @@ pub mod categories;
 pub mod comparing;
 pub mod loads;
 pub mod markets;
+pub mod newest;
 pub mod records;

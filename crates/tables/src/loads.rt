@@ -1,10 +1,12 @@
 // The loads, in lent columns: of each its actor, category and day as one number, its approved power and its row of
 // powers.
-ghost use Rattle.std.specs.Prelude.{◌≡◌, true, ◌<◌, ◌≤◌, ◌+◌, ◌-◌, eqb, leb, length, get_or};
+ghost use Rattle.std.specs.Prelude.{◌≡◌, true, ◌<◌, ◌≤◌, leb, length};
 ghost use Rattle.lists.specs.Searches.{every};
 ghost use Rattle.notification.specs.Forms.{in_places};
 ghost use Rattle.tables.specs.Tables.{load_number};
-ghost use Rattle.tables.specs.Passing.{bits_from, last_load, load_row, load_most};
+ghost use Rattle.tables.specs.Passing.{last_load, load_row, load_most};
+
+use crate::newest::newest;
 
 // The places for loads.
 pub const LOADS: u32 = 64;
@@ -25,43 +27,12 @@ pub fn load_number(actor: u32, category: u32, day: u32) -> u32
     day * 32 + category * 8 + actor
 }
 
-// Whether none of four in a row is this number. Each is looked at, so that the four are compared at once.
-fn none_of_four(keys: &[u32; 64], i: u32, number: u32) -> bool
-    requires { i + 4 ≤ 64 }
-    ensures { result ≡ true → bits_from (λ k. eqb (get_or keys.now k 0) number) i 4 ≡ 0 }
-{
-    let at = i as usize;
-    !(((keys[at] == number) | (keys[at + 1] == number))
-        | ((keys[at + 2] == number) | (keys[at + 3] == number)))
-}
-
-// Whether there are four numbers below i, and none of the last four is this one.
-fn passes_four(keys: &[u32; 64], i: u32, number: u32) -> bool
-    requires { i ≤ 64 }
-    ensures { result ≡ true →
-        (4 ≤ i) × (bits_from (λ k. eqb (get_or keys.now k 0) number) (i - 4) 4 ≡ 0) }
-{
-    if i < 4 {
-        return false;
-    }
-    none_of_four(keys, i - 4, number)
-}
-
 // The newest of the first n loads with this number.
+#[tactic(auto, unfolding(crate::specs::Passing::last_load))]
 pub fn last_of(keys: &[u32; 64], n: u32, number: u32) -> Option<u32>
     ensures { result ≡ last_load keys.now n number }
 {
-    let mut end = n.min(LOADS);
-    // By index: four are passed at once, from an end that need be no multiple of four.
-    while passes_four(keys, end, number) {
-        end -= 4;
-    }
-    for i in (0..end).rev() {
-        if keys[i as usize] == number {
-            return Some(i);
-        }
-    }
-    None
+    newest(keys, n, number)
 }
 
 // The powers of a load that was found, or zeros.

@@ -3,11 +3,8 @@ use Rattle.std.proofs.Common.{◌/◌, ◌<◌, arith}
 use Rattle.tables.specs.Passing.{in_market}
 use Rattle.tables.proofs.Fours.{next_is}
 use Rattle.judging.specs.Nets.{Passing}
-use Rattle.judging.proofs.Passed.{passed_none, passed_next, passed_more, passed_between, passed_all}
+use Rattle.judging.proofs.Passed.{passed_next, passed_more, passed_between, passed_all}
 use Rattle.judging.proofs.passing.pass_records.Goals as goal
-
-pub loop-k-init : goal.loop-k-init
-loop-k-init c = let p = c.requires in (omega arith, passed_none _ _ _ _ _ _ _ _ _ _ p.2 p.3)
 
 pub pass_record-count-requires : goal.pass_record-count-requires
 pass_record-count-requires c =

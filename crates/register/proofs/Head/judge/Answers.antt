@@ -35,12 +35,10 @@ returns-in_err-timely c =
 
 pub steps_fit-requires : goal.steps_fit-requires
 steps_fit-requires c =
-    let a = c.args in (
-      judgeable_of a.self no_columns no_loads a.entry a.at
-          (sym (c.enrolled.ensures no_columns no_loads) ∙ c.in_ok-enrolled.was)
-          (sym (c.timely.ensures no_columns no_loads) ∙ c.in_ok-timely.was),
-      c.requires,
-    )
+    let a = c.args in
+    judgeable_of a.self no_columns no_loads a.entry a.at
+    (sym (c.enrolled.ensures no_columns no_loads) ∙ c.in_ok-enrolled.was)
+    (sym (c.timely.ensures no_columns no_loads) ∙ c.in_ok-timely.was)
 
 -- 20 to 30 passed: 31 to 35 decide, and then 36
 last : (c : In_ok-timely) (ids : List ℕ) → let a = c.args in

@@ -14,7 +14,6 @@ pass_records-requires c = (
   omega (arith, c.steps_of-until.ensures, steps_small c.args.at.day),
   c.start_net.ensures.between,
   c.start_net-2.ensures.between,
-  c.requires.3,
 )
 
 pub returns : goal.returns

@@ -17,12 +17,12 @@ use Rattle.register.proofs.Head.steps_fit.Goals as goal
 use Rattle.register.proofs.Head.steps_fit.Goals.{After-step_verdict}
 
 pub load_number-requires : goal.load_number-requires
-load_number-requires c = let j = c.requires.0 in (j.ceder, j.category, j.day)
+load_number-requires c = let j = c.requires in (j.ceder, j.category, j.day)
 
 pub returns-in_err-ceders : goal.returns-in_err-ceders
 returns-in_err-ceders c =
     let a = c.args in
-    let j = c.requires.0 in
+    let j = c.requires in
     let p = err_from_is_err_and c.from_residual.result c.from_residual.ensures.1 in
     let e = c.in_err-ceders.ensures in
     rw (p.1, p.2, not_found c.last_of.result _ _ e.ok_part e.value) (
@@ -32,11 +32,11 @@ returns-in_err-ceders c =
     )
 
 pub load_number-requires-2 : goal.load_number-requires-2
-load_number-requires-2 c = let j = c.requires.0 in (j.acquirer, j.category, j.day)
+load_number-requires-2 c = let j = c.requires in (j.acquirer, j.category, j.day)
 
 pub step_verdict-requires : goal.step_verdict-requires
 step_verdict-requires c = (
-  omega (arith, c.first_counted.ensures, c.steps_of.ensures, c.requires.0.counted),
+  omega (arith, c.first_counted.ensures, c.steps_of.ensures, c.requires.counted),
   omega (arith, c.steps_of.ensures, steps_small c.args.at.day),
   c.approved_of.ensures.1,
   c.approved_of-2.ensures.1,
@@ -49,7 +49,7 @@ judged : (c : After-step_verdict) (ids : List ℕ) →
     c.step_verdict.result ≡ first_met (load_test l (key_at c.args.at) ∷ step_tests l (key_at c.args.at) c.args.ps.now)
 judged c ids =
     let a = c.args in
-    let j = c.requires.0 in
+    let j = c.requires in
     let cols = columns_of a.records ids in
     let loads = loads_of a.loads in
     let number = c.load_number.ensures in

@@ -2,14 +2,14 @@
 use mathlib.Core.Path.{◌≡◌, sym, ap, ◌∙◌}
 use Prim.Native.Nat.{◌+◌, ◌-◌, min}
 use native.Mathlib.Omega.{arith}
-use Rattle.tables.specs.Passing.{last_below, last_load}
+use Rattle.tables.specs.Passing.{last_below}
 use Rattle.tables.proofs.Down.{last_none}
 use Rattle.tables.proofs.Fours.{last_past_bits}
 use Rattle.tables.proofs.LoadTable.{is_number, search_hit, search_skip}
-use Rattle.tables.proofs.loads.last_of.Goals as goal
+use Rattle.tables.proofs.newest.newest.Goals as goal
 
 pub loop-end-preserved : goal.loop-end-preserved
-loop-end-preserved c =
+loop-end-preserved g c =
     let b = c.loop-end in
     let a = c.args in
     let f = c.passes_four.ensures c.loop-end-test.true in
@@ -18,21 +18,19 @@ loop-end-preserved c =
     (omega arith, sym (last_past_bits (is_number a.keys.now a.number) (b.end - 4) 4 f.1) ∙ (ap (last_below (is_number a.keys.now a.number)) e ∙ b.invariant.1))
 
 pub returns-then-keys-i : goal.returns-then-keys-i
-unfolding last_load
-returns-then-keys-i c =
+returns-then-keys-i g c =
     let b = c.loop-i in
     let a = c.args in
-    search_hit a.keys.now a.number (min a.n 64) b.i c.loop-i-test.true b.invariant.1 c.if-keys-i.true
+    search_hit a.keys.now a.number (min a.n g.row.N) b.i c.loop-i-test.true b.invariant.1 c.if-keys-i.true
 
 pub loop-i-preserved : goal.loop-i-preserved
-loop-i-preserved c =
+loop-i-preserved g c =
     let b = c.loop-i in
     let a = c.args in
-    (omega arith, search_skip a.keys.now a.number (min a.n 64) b.i c.loop-i-test.true b.invariant.1 c.if-keys-i.false)
+    (omega arith, search_skip a.keys.now a.number (min a.n g.row.N) b.i c.loop-i-test.true b.invariant.1 c.if-keys-i.false)
 
 pub returns : goal.returns
-unfolding last_load
-returns c =
+returns g c =
     let b = c.loop-i in
     let a = c.args in
     last_none (is_number a.keys.now a.number) b.i (omega arith) ∙ b.invariant.1
