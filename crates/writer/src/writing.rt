@@ -102,8 +102,8 @@ fn put_lines(buffer: &mut [u8], at: usize, steps: u32, powers: &[u16]) -> usize
         buffer.new result }
 {
     let mut next = at;
-    for k in 0..steps {
-        next = put_line(buffer, next, steps, k, powers[k as usize]);
+    for (k, power) in (0..steps).zip(powers) {
+        next = put_line(buffer, next, steps, k, *power);
     }
     next
 }
