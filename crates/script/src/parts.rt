@@ -5,9 +5,8 @@ ghost use Rattle.script.specs.Spans.{cut, first_text, second_text, powers_read};
 use crate::numbers::numeral_from;
 use crate::reading::Line;
 
-// What stands for a field that is no number: the least number that has more than five digits.
-// A number and no Option: a load's call takes its powers as numbers side by side, and of a line that was read each is
-// one.
+// What stands for a field that is no number: the least number that has more than five digits. No Option: a load's call
+// takes its powers as numbers side by side, and of a line that was read each field is one.
 const NUMBER_END: u32 = 100000;
 
 // The part of a line from a place to before another, as far as it lies in the line.
@@ -39,8 +38,7 @@ pub struct Powers {
     pub numbers: [u32; 256],
 }
 
-// The powers of a line that was read, from the place where they start: at most 256, and no more than the line has
-// fields.
+// The powers of a line that was read, from the place where they start: at most 256, and no more than there are fields.
 pub fn powers_of(line: &[u8], read: Line) -> Powers
     ensures { result ≡ powers_read line.now read }
 {
