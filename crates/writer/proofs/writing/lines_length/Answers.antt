@@ -34,10 +34,9 @@ loop-k-preserved c =
     let k : c.in-Some.k ≡ i = search rules in
     let h : i < c.args.steps = search rules in
     let e : drop i c.args.powers.now ≡ c.in-Some.power.now ∷ c.next.new.self.b.rest.now = search rules in
-    let p = left_first c.args.powers.now c.next.new.self.b.rest.now i c.in-Some.power.now e in
-    let n : c.next.new.self.a.end ≡ c.args.steps = search rules in (
+    let p = left_first c.args.powers.now c.next.new.self.b.rest.now i c.in-Some.power.now e in (
       rw t (sum_more (step_text c.args.steps) c.args.steps c.args.powers.now c.requires i h l.sum c.line_length-sum.result l.invariant.0 (rw (k, p) at c.line_length-sum.ensures)),
-      n,
+      search rules,
       omega arith,
       rw t (left_more c.args.powers.now c.next.new.self.b.rest.now i c.in-Some.power.now e),
     )

@@ -43,9 +43,8 @@ loop-k-preserved c =
     let k : c.in-Some.k ≡ i = search rules in
     let h : i < c.args.steps = search rules in
     let e : drop i c.args.powers.now ≡ c.in-Some.power.now ∷ c.next.new.self.b.rest.now = search rules in
-    let p = left_first c.args.powers.now c.next.new.self.b.rest.now i c.in-Some.power.now e in
-    let n : c.next.new.self.a.end ≡ c.args.steps = search rules in (
-      n,
+    let p = left_first c.args.powers.now c.next.new.self.b.rest.now i c.in-Some.power.now e in (
+      search rules,
       omega arith,
       rw t (left_more c.args.powers.now c.next.new.self.b.rest.now i c.in-Some.power.now e),
       rw t (step_placed (step_text c.args.steps) c.args.steps c.args.powers.now c.requires.0 i h _ _ _ _ l.invariant.3 _ _ (rw (k, p) at c.put_line-next.ensures)),
