@@ -1,5 +1,5 @@
 // Dates and day numbers: "A date is eight digits, year month day, Gregorian, 20000101 to 20991231. Its day number
-// counts from 0 for 20000101, a Saturday, to 36524."
+// counts from 0 for 20000101, a Saturday, to 36524." Leap days go as a number with its bound, since they are added.
 ghost use Rattle.std.specs.Prelude.{true, ◌≡◌, ◌+◌, ◌<◌};
 ghost use Rattle.calendar.specs.Dates.{year_count, day_count, month_count, leap_days, before_year, before_month};
 ghost use Rattle.calendar.specs.Dates.{month_length, InMonth, number, date, valid};

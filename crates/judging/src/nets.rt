@@ -1,6 +1,6 @@
-// What the ceder and the acquirer of a filing would have at the counted steps without the key's own power: loaded, plus
-// what other records let them acquire, less what those let them cede. Both are counted from a base, so that none falls
-// below 0.
+// What the ceder and the acquirer of a filing would have at the counted steps without the key's own power: loaded,
+// plus what other records let them acquire, less what those let them cede. Both are counted from a base, so that none
+// falls below 0. Each net is an array of its own, said to lie near the base: the two are moved one by one.
 ghost use Rattle.std.specs.Prelude.{◌≡◌, ◌+◌, ◌≤◌, ◌&&◌, replicate, if◌then◌else◌, nat_le, nat_lt};
 ghost use Rattle.tables.specs.Passing.{load_row};
 ghost use Rattle.judging.specs.Nets.{base, Between, Moved, Applied, Based};

@@ -1,4 +1,5 @@
-// The steps of an object, and what closes it.
+// The steps of an object, and what closes it. A text and a place go as two parameters, as in `tokens`. A count of
+// steps goes as a number with its bound, as in the reader's `steps`.
 ghost use Rattle.std.specs.Prelude.{◌≡◌, true, false, ◌≤◌, length, drop, IfSome, MatchOption};
 ghost use Rattle.notification.specs.Forms.{places};
 ghost use Rattle.reader.specs.Folding.{no_steps, step_taken};
