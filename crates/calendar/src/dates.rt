@@ -1,5 +1,5 @@
 // Dates and day numbers: "A date is eight digits, year month day, Gregorian, 20000101 to 20991231. Its day number
-// counts from 0 for 20000101, a Saturday, to 36524."
+// counts from 0 for 20000101, a Saturday, to 36524." Leap days go as a number with its bound, since they are added.
 ghost use Rattle.std.specs.Prelude.{true, ◌≡◌, ◌+◌, ◌<◌};
 ghost use Rattle.calendar.specs.Dates.{year_count, day_count, month_count, leap_days, before_year, before_month};
 ghost use Rattle.calendar.specs.Dates.{month_length, InMonth, number, date, valid};
@@ -24,7 +24,8 @@ pub struct Date {
     pub day: u32,
 }
 
-// The days that a year has above 365: of these years every fourth, 2000 too, is a leap year.
+// The days that a year has above 365: of these years every fourth, 2000 too, is a leap year. A number and no bool,
+// since it is added.
 fn leap_days(year: u32) -> u32
     requires { year < year_count }
     ensures { (result ≡ leap_days year) × (result < 2) }
@@ -86,7 +87,7 @@ pub(crate) fn date_of(day: u32) -> Date
     Date { year, month, day }
 }
 
-// The length of a month; 0 where there is no such month.
+// The length of a month; 0 where there is no such month, and no Option: a day is held against it, and none is below 1.
 fn month_length(leaps: u32, month: u32) -> u32
     requires { leaps < 2 }
     ensures { result ≡ month_length leaps month }

@@ -1,5 +1,5 @@
 // The two labels of a step: "Labels are `hh:mm` pairs, 00:00;00:30 up to 23:30;24:00", but for the turn of a short and
-// of a long day.
+// of a long day. A step and the day's steps go as two numbers: they are what a caller has.
 ghost use Rattle.std.specs.Prelude.{◌≡◌, ◌<◌, ◌≤◌};
 ghost use Rattle.calendar.specs.Labels.{turn_of, minute_of, label_of, labels_of, labels_at};
 ghost use Rattle.calendar.specs.Steps.{long_steps};

@@ -39,6 +39,7 @@ pub fn has_check(s: &[u8]) -> bool
     ensures { result ≡ has_check s.now }
 {
     let mut sum: u32 = 0;
+    // By index: a text that has fewer characters is weighed too, with a 0 in the place of each that it lacks.
     for i in 0..15 {
         sum += (16 - i as u32) * value_of(byte_at(s, i));
     }

@@ -90,15 +90,6 @@ sum_more : (n : ℕ) (f : ℕ → ℕ) → sum_to (n + 1) f ≡ sum_to n f + f n
 sum_more n f = rw add-one
 
 module _ (cols : Columns) (own who : ℕ) (start : List ℕ) (first until : ℕ) where
-  pub netting_none : Between start base (base + 65535) → Netting cols own who start first until 0 start
-  netting_none b =
-      record {
-        fifty = b.fifty;
-        each = λ s h l. refl;
-        low = λ s h. omega (arith, b.low s h);
-        high = λ s h. omega (arith, b.high s h);
-      }
-
   pub netting_between : (i : ℕ) (net : List ℕ) → i < 256 → Netting cols own who start first until i net → Between net 65535 4294901760
   netting_between i net h t =
       record {

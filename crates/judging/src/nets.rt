@@ -1,6 +1,6 @@
-// What the ceder and the acquirer of a filing would have at the counted steps without the key's own power: loaded, plus
-// what other records let them acquire, less what those let them cede. Both are counted from a base, so that none falls
-// below 0.
+// What the ceder and the acquirer of a filing would have at the counted steps without the key's own power: loaded,
+// plus what other records let them acquire, less what those let them cede. Both are counted from a base, so that none
+// falls below 0. Each net is an array of its own, said to lie near the base: the two are moved one by one.
 ghost use Rattle.std.specs.Prelude.{◌≡◌, ◌+◌, ◌≤◌, ◌&&◌, replicate, if◌then◌else◌, nat_le, nat_lt};
 ghost use Rattle.tables.specs.Passing.{load_row};
 ghost use Rattle.judging.specs.Nets.{base, Between, Moved, Applied, Based};
@@ -90,7 +90,8 @@ fn apply_in_span(net: &mut [u32; 50], gains: bool, gives: bool, mark: [u8; 4], r
 }
 
 // Applies a record to a net: its powers are gained, or given. A record in force at all counted steps has its whole row
-// gained or given; one that ends before them moves nothing there, and neither does one that both gains and gives.
+// gained or given; one that ends before them moves nothing there, and neither does one that both gains and gives: so
+// there are two flags and no enum.
 pub(crate) fn apply_record(
     net: &mut [u32; 50],
     gains: bool,

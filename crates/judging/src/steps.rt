@@ -1,4 +1,6 @@
-// The checks 32 to 35 of a filing at its counted steps, by what ceder and acquirer have.
+// The checks 32 to 35 of a filing at its counted steps, by what ceder and acquirer have. Steps and approved powers go
+// as numbers, each with its bound where a sum or an index needs it: a struct for them would be taken apart at each
+// step.
 ghost use Rattle.std.specs.Prelude.{◌≡◌, ℕ, ◌+◌, ◌-◌, ◌<◌, ◌≤◌, true, ◌&&◌, nat_le, slice_index};
 ghost use Rattle.lists.specs.Searches.{first_from};
 ghost use Rattle.refusals.specs.Tests.{first_met};
@@ -11,7 +13,7 @@ use refusals::{Refusal, StateRefusal};
 use std::array;
 
 // The first of the steps from `first` to before `until` at which one number is below another; `until` where there is
-// none.
+// none, and no Option: it is what `first_from` gives, of which the laws of the checks are.
 fn first_below(left: [u32; 50], right: [u32; 50], first: u32, until: u32) -> u32
     requires { (first ≤ until) × (until ≤ 50) }
     ensures { result ≡ first_from (below_at left right) first (until - first) }

@@ -117,9 +117,3 @@ unfolding ended ended_at
 some_last s held h k = rw (lt-ltb 0 held h, lt-ltb held (length s) k) (refl, refl)
 
 -- ---- room behind a place
-
-pub room_left : (at n k : ℕ) → k ≤ n → leb at (n - k) ≡ leb (at + k) n
-room_left at n k h =
-    by_test (leb at (n - k))
-    (λ t. t ∙ sym (le-leb (at + k) n (omega (arith, leb-true at (n - k) t))))
-    (λ t. t ∙ sym (lt-leb (at + k) n (omega (arith, leb-false at (n - k) t))))

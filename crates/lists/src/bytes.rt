@@ -20,7 +20,8 @@ pub fn has_byte(s: &[u8], b: u8) -> bool
     found
 }
 
-// The place of a byte, from a place on; the end of the text where there is none.
+// The place of a byte, from a place on; the end of the text where there is none, and no Option: what stands before the
+// byte is what stands before the end then.
 pub fn byte_from(s: &[u8], from: usize, b: u8) -> usize
     ensures { result ≡ byte_from b s.now from }
 {

@@ -1,13 +1,13 @@
 -- A code and a category in the bytes in which they are kept: a code byte by byte, a category with a 0 where it has no C.
-use mathlib.Core.Path.{◌≡◌, refl, sym, ◌∙◌}
+use mathlib.Core.Path.{◌≡◌, refl, ◌∙◌}
 use mathlib.Core.Bool.{true, ◌&&◌, ◌||◌}
 use mathlib.Core.List.{List, [], ◌∷◌, ◌++◌}
-use Prim.Native.Nat.{ℕ, zero, suc, ◌+◌, ◌<◌, ◌≤◌}
+use Prim.Native.Nat.{ℕ, zero, suc, ◌+◌, ◌<◌}
 use native.Mathlib.Numerals.{add-one}
 use native.Mathlib.Omega.{arith}
 use lib.Dec.{eqb}
 use lib.ListN.{length, get_or, take, set, replicate, length-append, length-replicate}
-use lib.Seq.{take_at, take-suc, take-suc-set, take_all, length-take-le, get_or_at, get_or-take}
+use lib.Seq.{take_at, take-suc, take-suc-set, length-take-le, get_or_at, get_or-take}
 use borrow.Author.Tests.{eqb-true}
 use Rattle.lists.specs.Searches.{every}
 use Rattle.lists.proofs.Tests.{and_left, and_right, or_cases}
@@ -41,9 +41,6 @@ pub copied_more : (n : ℕ) (a s : List ℕ) (i x : ℕ) → i < n → length a 
 copied_more n a s i x h l v e =
     let k : i < length (filled n s) = omega (arith, filled_length n s) in
     rw (add-one, take-suc-set a i x (omega arith), take-suc (filled n s) i 0 k, filled_at n s i h, e, v)
-
-pub copied_all : (n : ℕ) (a s : List ℕ) (i : ℕ) → n ≤ i → length a ≡ n → take i a ≡ take i (filled n s) → a ≡ filled n s
-copied_all n a s i h l e = sym (take_all i a (omega arith)) ∙ (e ∙ take_all i (filled n s) (omega (arith, filled_length n s)))
 
 -- ---- a category's six bytes
 

@@ -6,8 +6,8 @@ use Prim.Native.Nat.{ℕ, ◌+◌, ◌<◌, ◌≤◌}
 use native.Mathlib.Numerals.{add-one}
 use native.Mathlib.Omega.{arith}
 use lib.Dec.{ltb, eqb}
-use lib.ListN.{length, get_or, take, drop, drop_of_length-le}
-use lib.Seq.{take-suc, take_all, drop-cons, length-take-le}
+use lib.ListN.{length, get_or, take, drop}
+use lib.Seq.{take-suc, take_all, length-take-le}
 use borrow.Author.Tests.{eq-eqb, ne_eqb}
 use Rattle.lists.specs.Searches.{every}
 use Rattle.calendar.specs.Steps.{steps_of}
@@ -65,15 +65,6 @@ category_six s d n e = rw (n, e)
 pub category_none : (s : List ℕ) → (length s ≡ 5 → ⊥) → (length s ≡ 6 → ⊥) → false ≡ is_category s
 unfolding is_category
 category_none s h k = rw (ne_eqb (length s) 5 h, ne_eqb (length s) 6 k) (sym (and_none (every is_digit (take 5 s))))
-
--- ---- every, from a place on
-
-module _ (p : ℕ → Bool) (s : List ℕ) (all : Bool) (i : ℕ) (good : Bool) where
-  pub checked_more : i < length s → all ≡ (good && every p (drop i s)) → all ≡ (good && p (get_or s i 0) && every p (drop (i + 1) s))
-  checked_more h e = rw (and_assoc, add-one i) (rw (drop-cons s i 0 h) at e)
-
-  pub checked_all : length s ≤ i → all ≡ (good && every p (drop i s)) → good ≡ all
-  checked_all h e = sym (rw (drop_of_length-le s h, and_end good) at e)
 
 -- ---- a category's text
 

@@ -34,7 +34,6 @@ fn in_pieces(name: &[u8], body: &[u8], way: u16) -> Result<Notification, Refusal
     let mut reader = FileReader::begin(name);
     let mut row = u32::from(way) + 1;
     let mut rest = body;
-    // By hand: the pieces are of different lengths.
     // By hand: how long a piece is, is drawn each turn, and no iterator of the library cuts by such lengths.
     while !rest.is_empty() {
         row = next(row);

@@ -8,6 +8,7 @@ use crate::keys::is_header;
 use refusals::InputRefusal;
 
 // What is found of a line 1 that isn't the name's header, the number of its refusal: it is no header, or another's.
+// Numbers and no enum: C holds the file reader that they stand in.
 pub(crate) const NO_HEADER: u32 = InputRefusal::Header as u32;
 
 pub(crate) const OTHER_HEADER: u32 = InputRefusal::Differs as u32;

@@ -87,8 +87,8 @@ fn pass_lines(t: FileTally, body: &[u8], from: usize) -> Run<FileTally>
 }
 
 // A text's lines from a place on, each ended by LF, one after another, and where the unfinished line begins. The
-// header's line that the name asks for is given with its LF. A text and a place in it, here and below, and not the rest of
-// the text: what is given back is a place of the same text.
+// header's line that the name asks for is given with its LF. A text and a place in it, here and below, and not the
+// rest of the text: what is given back is a place of the same text.
 pub(crate) fn take_lines(
     t: FileTally,
     header: &[u8],

@@ -19,7 +19,8 @@ pub fn half_hours(steps: u32, at: u32) -> u32
     }
 }
 
-// The boundary up to which the labels from a boundary on go on by half hours; 0 where they don't.
+// The boundary up to which the labels from a boundary on go on by half hours; 0 where they don't, and no Option: a loop
+// goes on as long as it is below that.
 pub fn run_end(steps: u32, k: u32) -> u32
     requires { (k ≤ steps) × (steps ≤ places) }
     ensures { k < result → Plain steps k result }

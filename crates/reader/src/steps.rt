@@ -1,4 +1,5 @@
-// The lines of a day's steps: what each says, and the fold over them.
+// The lines of a day's steps: what each says, and the fold over them. A count of steps goes as a number with its bound:
+// it comes so from the file reader that C holds.
 ghost use Rattle.std.specs.Prelude.{◌≡◌, [], ◌∷◌, ◌++◌, ◌+◌, ◌-◌, ◌<◌, ◌≤◌, length, drop, take};
 ghost use Rattle.notification.specs.Forms.{places};
 ghost use Rattle.reader.specs.Walking.{starts_with, line_power, whole_to};

@@ -1,4 +1,4 @@
-// What the records move for an actor at a step.
+// What the records move for an actor at a step. Of the columns, which C lends whole, the first n places are records.
 ghost use Rattle.std.specs.Prelude.{◌≡◌, cond, List, ℕ, ◌<◌, ◌≤◌, ◌*◌};
 ghost use Rattle.lists.specs.Sums.{sum_to};
 ghost use Rattle.ledger.specs.Ledger.{moved_by};

@@ -76,7 +76,8 @@ fn with_until(mut mark: [u8; 4], until: u8) -> [u8; 4]
     mark
 }
 
-// What a filing makes of record i: its status and until-step.
+// What a filing makes of record i: its status and until-step. Two of the columns are written and two are read, so
+// that no struct of references holds the four.
 fn change_at(
     statuses: &mut [u8; 256],
     keys: &[u32; 256],

@@ -91,10 +91,6 @@ abbrev pub tried_all : Verdict → List Test → Verdict
 tried_all v [] = v
 tried_all v (t ∷ ts) = tried_all (tried v t) ts
 
--- one test more, of a verdict that those before it came to
-pub then_tried : (u v w : Verdict) (met : Bool) (r : Refusal) → w ≡ tried v (met, r) → v ≡ u → w ≡ tried u (met, r)
-then_tried u v w met r e f = e ∙ ap (λ v. tried v (met, r)) f
-
 refused_stays : (r : Refusal) (ts : List Test) → tried_all (Err r) ts ≡ Err r
 refused_stays r [] = refl
 refused_stays r (t ∷ ts) = refused_stays r ts

@@ -35,10 +35,6 @@ no_columns = columns [] [] [] [] []
 abbrev pub no_loads : LoadColumns
 no_loads = load_columns [] [] []
 
-not_not : (b : Bool) → not (not b) ≡ b
-not_not true = refl
-not_not false = refl
-
 -- ---- the tests of each call, one after the other, by how many actors and categories there are
 
 abbrev pub named_tried : ℕ → ℕ → ℕ → ℕ → Bool → Bool → List Test

@@ -1,4 +1,5 @@
-// A register with its columns.
+// A register with its columns. It is the script's `Store` again: this program tests the register alone and stands on no
+// crate of the script.
 use register::Head;
 
 #[derive(Drop)]

@@ -14,7 +14,7 @@ pub(crate) struct Profile {
     then: u32,
 }
 
-// The step that a word says; without one, the first step past the longest day.
+// The step that a word says; without one, the first step past the longest day, and no Option: no step is at or past it.
 fn turn_of(word: &[u8]) -> usize {
     if word.is_empty() {
         50

@@ -1,22 +1,18 @@
 -- Steps taken at once, one after another: the place in the day and that in the list of labels go on together, and what is kept and the
 -- tokens from there on say what they said at first.
-use mathlib.Core.Path.{◌≡◌, refl, sym, subst}
+use mathlib.Core.Path.{◌≡◌, refl, sym}
 use mathlib.Core.List.{List}
 use Prim.Native.Nat.{ℕ, suc, ◌+◌, ◌-◌, ◌*◌, ◌<◌, ◌≤◌}
 use native.Mathlib.Omega.{arith}
-use lib.Dec.{ltb}
 use lib.ListN.{length, set}
-use borrow.Author.Tests.{ltb-true, ltb-false}
-use Rattle.lists.proofs.Tests.{by_test}
 use Rattle.notification.specs.Forms.{places}
 use Rattle.reader.specs.Walking.{half_hours, Plain}
-use Rattle.reader.specs.declared.tally.Tally.{Tally}
 use Rattle.reader.specs.Folding.{Taken}
 use Rattle.request.specs.Writing.{hour_label}
 use Rattle.request_reader.specs.Walking.{part}
 use Rattle.request_reader.specs.Steps.{label_list, LabelEntry, FrontAt}
 use Rattle.request_reader.specs.Series.{between_steps, Onward}
-use Rattle.request_reader.proofs.StepRuns.{onward_refl, onward_on, front_onward}
+use Rattle.request_reader.proofs.StepRuns.{onward_on, front_onward}
 use Rattle.request_reader.proofs.LabelLists.{label_entry, label_listed}
 
 -- ---- what holds before each step
@@ -74,22 +70,3 @@ module _ (steps first stop : ℕ) (s : List ℕ) (from : ℕ) (x : Taken) where
             within = f.within;
             onward = onward_on steps s from at next x here there r.onward step;
           }
-
--- the step that is reached is one of the day
-pub within_day : (first k : ℕ) → first ≤ k → (first < k → k ≤ 50) → first ≤ 50 → k ≤ 50
-within_day first k o f h = by_test (ltb first k) (λ t. f (ltb-true first k t)) (λ t. omega (arith, o, h, ltb-false first k t))
-
--- and before the first
-pub run_start : (steps stop : ℕ) (s : List ℕ) (from i : ℕ) (t : Tally) (ps : List ℕ)
-    → t.fault ≡ 0 → i ≡ half_hours steps t.lines * 10 → from ≤ length s
-    → RunInv steps t.lines stop s from (record { tally = t; powers = ps }) t.lines i from ps
-run_start steps stop s from i t ps p e w =
-    let x : Taken = record { tally = t; powers = ps } in
-    let same : x ≡ kept_at x t.lines ps = λ j. record { tally = record { lines = t.lines; fault = p j; place = t.place }; powers = ps } in
-    record {
-      on = omega arith;
-      upto = λ l. absurd (omega arith);
-      listed = omega arith;
-      within = w;
-      onward = subst (λ (y : Taken). Onward steps s from x from y) same (onward_refl steps s from x);
-    }

@@ -18,8 +18,7 @@ use Rattle.std.proofs.lemmas.Option.{none-some}
 use Rattle.lists.specs.Searches.{same}
 use Rattle.lists.proofs.Tests.{by_test, or_right}
 use Rattle.notification.specs.Forms.{is_digit}
-use Rattle.reader.specs.declared.tally.Tally.{Tally}
-use Rattle.reader.specs.Folding.{Taken, is_over, counted, judged, step_taken, take_all}
+use Rattle.reader.specs.Folding.{Taken, is_over, step_taken, take_all}
 use Rattle.request.specs.Tokens.{is_blank, quote, onto, tokens_from, tokens, fits, is}
 use Rattle.request.specs.Objects.{Step}
 use Rattle.request.specs.Writing.{hour_label}
@@ -62,10 +61,6 @@ one_some t ts = refl
 none_left : fits [] (tokens []) ≡ true
 unfolding fits tokens_from
 none_left = refl
-
-none_closed : fits closing [] ≡ false
-unfolding fits
-none_closed = refl
 
 tokens_some : (b : ℕ) (s : List ℕ) → is_blank b ≡ false → fits [] (tokens (b ∷ s)) ≡ false
 unfolding tokens_from
@@ -146,9 +141,6 @@ module _ (steps : ℕ) (s : List ℕ) (first : ℕ) (x : Taken) where
     pub within : at ≤ length s
     pub begins : lead ≡ at → (at ≡ first) × (y ≡ x)
     pub goes : lead < at → Told steps s first x lead y × Passed between_steps s lead at
-
-  pub due_first : first ≤ length s → StepDue first first x
-  due_first w = record { on = omega arith; within = w; begins = λ e. (refl, refl); goes = λ h. absurd (omega arith) }
 
   pub due_told : (lead at next : ℕ) (y z : Taken) → StepDue lead at y → NextStep steps s at next y z → Told steps s first x next z
   due_told lead at next y z d n =
@@ -270,12 +262,3 @@ module _ (s : List ℕ) (from first : ℕ) (p : Past s from first) where
   not_none f = rw p.same_tokens (mark_other s from first 93 p refl f)
 
 -- ---- a step more, by what it says
-
-pub tell_over : (first steps : ℕ) (t y : Tally) (ps : List ℕ) (said : Result ℕ StepFault) (over : Bool) → over ≡ is_over steps t → over ≡ true → y ≡ counted t
-    → ◌≡◌ {A = Taken} (record { tally = y; powers = ps }) (step_taken first steps (record { tally = t; powers = ps }) said)
-tell_over first steps t y ps said over e f g = rw (g, sym e ∙ f)
-
-pub tell_on : (first steps : ℕ) (t y : Tally) (ps qs : List ℕ) (said : Result ℕ StepFault) (over : Bool) → over ≡ is_over steps t → over ≡ false
-    → ◌≡◌ {A = Taken} (record { tally = y; powers = qs }) (judged first (record { tally = t; powers = ps }) said)
-    → ◌≡◌ {A = Taken} (record { tally = y; powers = qs }) (step_taken first steps (record { tally = t; powers = ps }) said)
-tell_on first steps t y ps qs said over e f g = g ∙ rw (sym e ∙ f)

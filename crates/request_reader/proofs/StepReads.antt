@@ -7,10 +7,10 @@ use mathlib.Core.Bool.{Bool, true, false, false≢true, cond, not, ◌&&◌}
 use mathlib.Core.List.{List, [], ◌∷◌, ◌++◌}
 use Prim.Native.Nat.{ℕ, ◌+◌, ◌-◌, ◌<◌, ◌≤◌}
 use native.Mathlib.Omega.{arith}
-use lib.Dec.{ltb, eqb}
+use lib.Dec.{ltb}
 use lib.ListN.{length, get_or, take, drop, length-take, length-drop, length-append, get_or-eq_default, get_or-append}
 use lib.Seq.{get_or-drop, get_or-take, get_or-append_seam, length-take-le}
-use borrow.Author.Tests.{ltb-true, ltb-false, eqb-true}
+use borrow.Author.Tests.{ltb-true, ltb-false}
 use Rattle.std.proofs.lemmas.Option.{none-some}
 use Rattle.lists.specs.Searches.{every, same}
 use Rattle.lists.proofs.Tests.{by_test, true_false, and_left, and_right, and_true}
@@ -24,7 +24,7 @@ use Rattle.request.specs.Reading.{is_label_byte, is_run}
 use Rattle.request.specs.Objects.{from_name, until_name, power_name}
 use Rattle.request.proofs.Unquoted.{label_unquoted}
 use Rattle.request_reader.specs.Walking.{starts, Past, Walked, Missing, Opened, RunTo, first_token, framed, between}
-use Rattle.request_reader.specs.Steps.{label_tests, LabelAt, power_of, power_tests, PowerAt, front_tests, said_of, said_by, StepAt, FiveAt}
+use Rattle.request_reader.specs.Steps.{label_tests, LabelAt, power_of, power_tests, PowerAt, front_tests, said_of, said_by, StepAt}
 use Rattle.request_reader.proofs.Walks.{starts_one, walked_on, missing_on, missing_first, token_after}
 use Rattle.request.proofs.Fits.{inside_quoted}
 use Rattle.request_reader.proofs.Values.{by_none, value_found, value_framed, value_tokens, opened_token}
@@ -113,11 +113,6 @@ module _ (s : List ℕ) (from end i : ℕ) (a : from ≤ end) (b : end ≤ lengt
   pub byte_inside : from + i < end → get_or s (from + i) 0 ≡ get_or (t ++ 59 ∷ []) i 0
   byte_inside h =
       sym (get_or-append t (59 ∷ []) 0 i (omega (arith, t_length)) ∙ (get_or-take (end - from) (drop from s) i 0 (omega arith) ∙ get_or-drop from s i 0))
-
-  pub byte_end : from + i ≡ end → 59 ≡ get_or (t ++ 59 ∷ []) i 0
-  byte_end h =
-      let e : i ≡ length t = omega (arith, t_length) in
-      sym (ap (λ (k : ℕ). get_or (t ++ 59 ∷ []) k 0) e ∙ get_or-append_seam t 59 [] 0)
 
   pub byte_past : end ≤ from + i → (from + i ≡ end → ⊥) → 0 ≡ get_or (t ++ 59 ∷ []) i 0
   byte_past h f =
@@ -262,25 +257,4 @@ module _ (s : List ℕ) (at : ℕ) where
 
 -- ---- a label of five bytes
 
-pub five_at : (s : List ℕ) (at : ℕ) → ((eqb (get_or s at 0) 34 && eqb (get_or s (at + 5) 0) 48) && eqb (get_or s (at + 6) 0) 34) ≡ true → FiveAt s at
-five_at s at e =
-    let o = eqb (get_or s at 0) 34 in
-    let l = eqb (get_or s (at + 5) 0) 48 in
-    let c = eqb (get_or s (at + 6) 0) 34 in
-    let f = and_left (o && l) c e in
-    record {
-      opens = eqb-true (get_or s at 0) 34 (and_left o l f);
-      last = eqb-true (get_or s (at + 5) 0) 48 (and_right o l f);
-      closes = eqb-true (get_or s (at + 6) 0) 34 (and_right (o && l) c e);
-    }
-
 -- ---- what is said, case by case
-
-pub said_wrong : (right : Bool) (power : Option (ℕ × ℕ)) → right ≡ false → (Err NoLabels) ≡ said_of right power
-said_wrong right power e = rw e
-
-pub said_power : (right : Bool) (power : Option (ℕ × ℕ)) (v n : ℕ) → right ≡ true → power ≡ Some (v, n) → Ok v ≡ said_of right power
-said_power right power v n e f = rw (e, f)
-
-pub said_none : (right : Bool) (power : Option (ℕ × ℕ)) → right ≡ true → power ≡ None → (Err NoPower) ≡ said_of right power
-said_none right power e f = rw (e, f)

@@ -1,4 +1,5 @@
-// The members before the steps: an object's key, its origin and when it was submitted.
+// The members before the steps: an object's key, its origin and when it was submitted. A text and a place go as two
+// parameters, as in `tokens`.
 ghost use Rattle.std.specs.Prelude.{◌≡◌, true, ◌≤◌, length, MatchOption, IfSome};
 ghost use Rattle.request_reader.specs.Heads.{PartiesAt, TermsAt, PlainParties, PlainDates};
 ghost use Rattle.request_reader.specs.Heads.{party_tests, term_tests, begin_tests};

@@ -1,5 +1,5 @@
 // The members of an object that have a value of their own: codes, the category and the two dates, each with the comma
-// after it.
+// after it. A text and a place go as two parameters, as in `tokens`.
 ghost use Rattle.std.specs.Prelude.{cond, ◌≡◌, ◌≤◌, length, MatchOption};
 ghost use Rattle.notification.specs.Forms.{is_code, is_category, six_bytes};
 ghost use Rattle.request.specs.Moments.{moment_in};

@@ -1,5 +1,5 @@
 // A moment by its twenty bytes: "`YYYY-MM-DDTHH:mm:ssZ` with a date of document 01 and a time from 00:00:00 to
-// 23:59:59".
+// 23:59:59". Each function asks for the twenty: they are looked at by their places.
 ghost use Rattle.std.specs.Prelude.{true, false, ◌≡◌, length, MatchOption};
 ghost use Rattle.calendar.specs.Texts.{day_of};
 ghost use Rattle.request.specs.Moments.{is_moment_text, moment_in};

@@ -1,4 +1,6 @@
 // Steps taken at once, where nothing stands between their tokens or where they are laid out as the step before them.
+// A text and a place go as two parameters, as in `tokens`. The list of the day's labels is handed on, and said to be
+// that list, so that its entries are compared where they stand.
 ghost use Rattle.std.specs.Prelude.{true, ◌≡◌, ℕ, ◌++◌, ◌+◌, ◌≤◌, length, drop, IfSome, IfNone};
 ghost use Rattle.std.specs.Option.{ForSome};
 ghost use Rattle.notification.specs.Forms.{places};

@@ -1,4 +1,5 @@
-// The steps of an object, and what closes it.
+// The steps of an object, and what closes it. A text and a place go as two parameters, as in `tokens`. A count of
+// steps goes as a number with its bound, as in the reader's `steps`.
 ghost use Rattle.std.specs.Prelude.{◌≡◌, true, false, ◌≤◌, length, drop, IfSome, MatchOption};
 ghost use Rattle.notification.specs.Forms.{places};
 ghost use Rattle.reader.specs.Folding.{no_steps, step_taken};
@@ -131,6 +132,7 @@ pub(crate) fn take_series(
         t\":\"16h00\"t\":\"16h30\"t\":\"17h00\"t\":\"17h30\"t\":\"18h00\"t\":\"18h30\"t\":\"19h00\"t\":\"19h30\"\
         t\":\"20h00\"t\":\"20h30\"t\":\"21h00\"t\":\"21h30\"t\":\"22h00\"t\":\"22h30\"t\":\"23h00\"t\":\"23h30\"\
         t\":\"00h00\"";
+    // By hand: how many steps a turn takes is known only after it, and the place to go on from is what ends it.
     loop {
         let step = next_step(s, at, tally, steps, labels, &mut *powers)?;
         // How the step is laid out after the power of another.

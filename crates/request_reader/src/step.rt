@@ -1,4 +1,5 @@
-// A step of an object: its two labels, held against those of its place in the day, and its power.
+// A step of an object: its two labels, held against those of its place in the day, and its power. A text and a place
+// go as two parameters, as in `tokens`.
 ghost use Rattle.std.specs.Prelude.{true, false, ◌&&◌, ◌≡◌, [], ◌∷◌, ◌++◌, ◌-◌, ◌≤◌};
 ghost use Rattle.std.specs.Prelude.{length, get_or, take, drop, MatchOption};
 ghost use Rattle.lists.specs.Searches.{every, same};

@@ -1,5 +1,6 @@
 // The tokens of an object, one after another: each function is told a place and gives the place after what it looks
-// for, where that stands there.
+// for, where that stands there. A text and a place in it go as two parameters, and not as the rest of the text, since
+// what stands before a place is looked at as well (`layouts`).
 ghost use Rattle.std.specs.Prelude.{ℕ, Bool, true, false, ◌≡◌, [], ◌∷◌, ◌≤◌, length, drop, IfSome};
 ghost use Rattle.reader.specs.Walking.{starts_with};
 ghost use Rattle.request.specs.Tokens.{is_blank, is};
@@ -38,6 +39,7 @@ pub(crate) fn past_blanks(s: &[u8], at: usize) -> usize
     ensures past { Past s.now at result }
     ensures passed { Passed [] s.now at result }
 {
+    // A space is tried first, as the one that most often stands there.
     run_to(s, at, |b| b == b' ' || is_blank(b))
 }
 

@@ -63,7 +63,8 @@ pub(crate) fn same_at(s: &[u8], p: usize, q: usize, n: usize) -> bool
         & eight_at(s, p + n - 8, s, q + n - 8)
 }
 
-// Whether the same bytes, 16 to 24, stand at two places.
+// Whether the same bytes, 16 to 24, stand at two places: `same_at`, for which a word more would be compared at each of
+// two places of a step.
 pub(crate) fn same_near(s: &[u8], p: usize, q: usize, n: usize) -> bool
     requires { (16 ≤ n) × (n ≤ 24) × (p + n ≤ length s.now) × (q + n ≤ length s.now) }
     ensures { result ≡ same (part p n s.now) (part q n s.now) }

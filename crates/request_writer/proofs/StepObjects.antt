@@ -6,13 +6,13 @@ use Prim.Native.Nat.{ℕ, suc, ◌+◌, ◌≤◌}
 use native.Mathlib.Numerals.{add-one}
 use native.Mathlib.Omega.{arith}
 use lib.Dec.{eqb}
-use lib.ListN.{length, set, length-append}
+use lib.ListN.{length, length-append}
 use Rattle.lists.proofs.Tests.{by_test}
 use Rattle.calendar.specs.Labels.{again_at, label_of}
 use Rattle.notification.specs.Forms.{digits}
 use Rattle.notification.proofs.Lengths.{digits_length}
 use Rattle.writer.specs.Placing.{Placed}
-use Rattle.writer.proofs.Placed.{placed_none, placed_end, placed_join, room_first, room_second}
+use Rattle.writer.proofs.Placed.{placed_join, room_first, room_second}
 use Rattle.request.specs.Objects.{until_name, power_name}
 use Rattle.request.specs.Writing.{hour_label}
 use Rattle.request_writer.specs.Pieces.{lead, next_lead, mark_of, from_text, until_text, power_object, step_object, marked_step}
@@ -32,13 +32,6 @@ pub step_most : (steps k p : ℕ) → length (marked_step steps k p) ≤ 57
 step_most steps k p =
     omega (arith, step_length steps k p, hour_length steps k, hour_length steps (suc k), digits_length p)
 
--- two labels, the digits and what stands around them
-pub step_sum : (steps k p a b d : ℕ) → a ≡ length (hour_label steps k) → b ≡ length (hour_label steps (k + 1)) → d ≡ length (digits p)
-    → a + b + d + 35 ≡ length (marked_step steps k p)
-step_sum steps k p a b d ea eb ed =
-    let e : b ≡ length (hour_label steps (suc k)) = rw (add-one k) at eb in
-    omega (arith, step_length steps k p)
-
 -- ---- a power, and the end of its step
 
 module _ (p : ℕ) (text : List ℕ) (e : text ≡ digits p) (buffer : List ℕ) (at : ℕ) (room : at + length (power_object p) ≤ length buffer) where
@@ -52,16 +45,10 @@ module _ (p : ℕ) (text : List ℕ) (e : text ≡ digits p) (buffer : List ℕ)
   power_room = room_first at its_power (125 ∷ []) room_both
 
   module _ (b : List ℕ) (n : ℕ) (q : Placed buffer at its_power b n) where
-    pub power_end_lem : n + 1 ≤ length b
-    power_end_lem = room_second (125 ∷ []) q room_both
-
     pub power_placed : (c : List ℕ) (m : ℕ) → Placed b n (125 ∷ []) c m → Placed buffer at (power_object p) c m
     power_placed c m s = rw e at (placed_join q s)
 
 -- ---- the byte before a step, and the step after it
-
-pub mark_placed : (k x : ℕ) (buffer : List ℕ) (at : ℕ) → x ≡ mark_of k → Placed buffer at (mark_of k ∷ []) (set buffer at x) (at + 1)
-mark_placed k x buffer at e = rw (← e) (placed_end buffer at [] buffer at x (placed_none buffer at))
 
 module _ (steps k p : ℕ) (buffer : List ℕ) (at : ℕ) (room : at + length (marked_step steps k p) ≤ length buffer)
     (b : List ℕ) (n : ℕ) (q : Placed buffer at (mark_of k ∷ []) b n) where

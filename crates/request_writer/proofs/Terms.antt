@@ -51,19 +51,10 @@ module _ (r : Request) (category day submitted : List ℕ) (ec : category ≡ ca
   room_category = room_first at first (second ++ (third ++ status_text)) room_all
 
   module _ (b : List ℕ) (n : ℕ) (p : Placed buffer at first b n) where
-    pub room_day : n + length second ≤ length b
-    room_day = room_first n second (third ++ status_text) (room_second (second ++ (third ++ status_text)) p room_all)
-
     module _ (c : List ℕ) (m : ℕ) (q : Placed b n second c m) where
       room_last : m + length (third ++ status_text) ≤ length c
       room_last = room_second (third ++ status_text) q (room_second (second ++ (third ++ status_text)) p room_all)
 
-      pub room_submitted : m + length third ≤ length c
-      room_submitted = room_first m third status_text room_last
-
       module _ (d : List ℕ) (k : ℕ) (s : Placed c m third d k) where
-        pub room_status : k + length status_text ≤ length d
-        room_status = room_second status_text s room_last
-
         pub terms_placed : (f : List ℕ) (end : ℕ) → Placed d k status_text f end → Placed buffer at (terms_text r) f end
         terms_placed f end t = rw (ec, ed, es) at (placed_join p (placed_join q (placed_join s t)))

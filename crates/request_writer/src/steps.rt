@@ -1,4 +1,6 @@
-// The steps of an object: each has its two labels and its power.
+// The steps of an object: each has its two labels and its power. They are added up and put one after another as the
+// file's lines are by `writer`: one function for both would take the step as a closure, and be told of its length and
+// of what it puts in more words than the loop has. Steps and powers go as numbers with their bounds, as there.
 ghost use Rattle.std.specs.Prelude.{◌≡◌, [], ◌∷◌, ◌++◌, ◌+◌, ◌≤◌, ◌<◌, length, take};
 ghost use Rattle.notification.specs.Forms.{places, power_end};
 ghost use Rattle.writer.specs.Placing.{Placed, Powered, step_texts};

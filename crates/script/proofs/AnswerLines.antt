@@ -57,9 +57,6 @@ unfolding values_text
 valued_none before at letter items = record { room = omega arith; put = placed_none before at }
 
 module _ {before : List ℕ} {at letter : ℕ} {items now : List ℕ} {next i : ℕ} (v : Valued before at letter items now next i) (few : length items ≤ 3) where
-  pub valued_room : i < length items → at + 33 ≤ length before → next + 11 ≤ length now
-  valued_room h k = omega (arith, v.room, placed_length v.put)
-
   pub valued_more : {now' : List ℕ} {next' : ℕ} → i < length items → Placed now next (comma ∷ value_text (eqb i letter) (get_or items i 0)) now' next' × (next' ≤ next + 11)
       → Valued before at letter items now' next' (i + 1)
   valued_more h p =
@@ -69,17 +66,6 @@ module _ {before : List ℕ} {at letter : ℕ} {items now : List ℕ} {next i : 
       let z : 0 + i ≡ i = omega arith in
       let e : values_text letter 0 (take (i + 1) items) ≡ values_text letter 0 (take i items) ++ comma ∷ value_text (eqb i letter) (get_or items i 0) = rw (add-one i, take-suc items i 0 h) (rw (n, z) at (values_end letter 0 (take i items) (get_or items i 0))) in
       record { room = omega arith; put = rw e (placed_join v.put p.0) }
-
-  -- the first of three are all that are wanted
-  pub valued_all : (count : ℕ) (values : List ℕ) → length values ≡ 3 → items ≡ take (min count 3) values → i ≡ length items
-      → Placed before at (values_text letter 0 (take count values)) now next × (next ≤ at + 33)
-  valued_all count values three e n =
-      let a : take i items ≡ items = take_all i items (omega arith) in
-      let f : take (min count 3) values ≡ take count values =
-      by_test (ltb count 3)
-      (λ k. let m : min count 3 ≡ count = omega (arith, ltb-true count 3 k) in rw m refl)
-      (λ k. take_all (min count 3) values (omega (arith, ltb-false count 3 k)) ∙ sym (take_all count values (omega (arith, ltb-false count 3 k)))) in
-      (rw (← (a ∙ e ∙ f)) v.put, omega (arith, v.room))
 
 -- ---- the rest of the line
 

@@ -105,17 +105,6 @@ pub record Spelt (before : List ℕ) (n i rest place : ℕ) (now : List ℕ) : T
   pub small : rest < word_end
   pub holds : now ≡ sets before place (drop i (decimal n))
 
-pub spelt_none : (before : List ℕ) (at n : ℕ) {count : ℕ} → count ≡ length (decimal n) → n < word_end → Spelt before n (at + count - at) n (at + count) before
-spelt_none before at n {count} e h =
-    let i : at + count - at ≡ length (decimal n) = omega arith in
-    rw i
-    (record {
-      left = λ k. sym (take-length (decimal n));
-      most = omega arith;
-      small = h;
-      holds = rw (drop-length (decimal n));
-    })
-
 -- one digit more in front of those that are put
 in_front : (before : List ℕ) (n place j d : ℕ) (now : List ℕ) → suc j ≤ length (decimal n) → get_or (decimal n) j 0 ≡ d
     → now ≡ sets before (suc place) (drop (suc j) (decimal n)) → set now place d ≡ sets before place (drop j (decimal n))
@@ -157,8 +146,3 @@ module _ {before : List ℕ} {n rest : ℕ} {now : List ℕ} where
       let q : place ≡ suc (place - 1) = omega arith in
       let spelt : Spelt before n (suc (place - 1 - at)) rest (suc (place - 1)) now = subst (λ k. Spelt before n k rest (suc (place - 1)) now) i (subst (λ k. Spelt before n (place - at) rest k now) q p) in
       one_more (place - 1 - at) (place - 1) spelt
-
-  pub spelt_all : {at place count : ℕ} → place ≡ at → count ≡ length (decimal n) → Spelt before n (place - at) rest place now → Placed before at (decimal n) now (at + count)
-  spelt_all {at} {place} {count} e q p =
-      let z : place - at ≡ 0 = omega arith in
-      record { holds = rw (z, e) at p.holds; follows = ap (λ m. at + m) q }

@@ -71,9 +71,6 @@ pub record Sofar (s : List ℕ) (i v : ℕ) : Type 0 where
   pub decides : every digit (drop i s) ≡ every digit s
   pub value : value_from v (drop i s) ≡ value_of s
 
-pub sofar_none : (s : List ℕ) → Sofar s 0 0
-sofar_none s = record { few = omega arith; small = omega arith; decides = refl; value = refl }
-
 module _ (s : List ℕ) (i v : ℕ) (h : i < length s) (p : Sofar s i v) where
   pub sofar_other : digit (get_or s i 0) ≡ false → is_number s ≡ false
   sofar_other l = other_none s (sym p.decides ∙ rw (drop-cons s i 0 h, l))
@@ -100,11 +97,6 @@ no_digit b e h =
     let l = ltb-false b 48 t in
     let k : 57 < b = omega (arith, e, value_from_lem b l) in
     rw (le-leb 48 b l, lt-leb b 57 k))
-
-pub sofar_room : (s : List ℕ) (i v : ℕ) → i < length s → length s ≤ most_digits → Sofar s i v → v < 10000
-sofar_room s i v k h p =
-    let l : 10 ^ i ≤ 10 ^ 4 = pow-le-pow_right {n = 10} (omega arith) {i = i} {j = 4} (omega arith) in
-    omega (arith, p.small)
 
 pub sofar_all : (s : List ℕ) (i v : ℕ) → (length s ≡ 0 → ⊥) → length s ≤ most_digits → zero_first s ≡ false → length s ≤ i → Sofar s i v → IsValue s v
 unfolding is_number value_from

@@ -36,18 +36,10 @@ pub record Counted (line : List ℕ) (from at count : ℕ) : Type 0 where
   pub many : count + length (fields_from line at) ≡ length (fields_from line from)
   pub decides : every is_number (fields_from line at) ≡ every is_number (fields_from line from)
 
-pub counted_none : (line : List ℕ) (from : ℕ) → from ≤ length line → Counted line from from 0
-counted_none line from h = record { inside = omega arith; room = omega arith; many = omega arith; decides = refl }
-
 cut_length : (line : List ℕ) (from end : ℕ) → length (cut line from end) ≤ end - from
 cut_length line from end = omega (arith, length-take (end - from) (drop from line))
 
 module _ {line : List ℕ} {from at count : ℕ} (c : Counted line from at count) {r : Numeral} (f : NumberRead line at r) where
-  pub counted_bad : is_some r.number ≡ false → every is_number (fields_from line from) ≡ false
-  counted_bad k =
-      let n : is_number (cut line at r.end) ≡ false = no_value (cut line at r.end) r.number k f.number in
-      sym c.decides ∙ (rw (f.ends.parts, n))
-
   pub counted_more : is_some r.number ≡ true → Counted line from (r.end + 1) (count + 1)
   counted_more k =
       let n : is_number (cut line at r.end) ≡ true = a_value (cut line at r.end) r.number k f.number in
@@ -84,11 +76,6 @@ pub record Taking (line : List ℕ) (from m at count : ℕ) (numbers : List ℕ)
   pub places : length numbers ≡ power_places
   pub zeros : drop count numbers ≡ replicate (power_places - count) 0
   pub holds : take count numbers ++ take (m - count) (map number_in (fields_from line at)) ≡ take m (map number_in (fields_from line from))
-
-pub taking_none : (line : List ℕ) (from count m : ℕ) → m ≡ min count power_places → Taking line from m from 0 (replicate power_places 0)
-taking_none line from count m e =
-    let z : m - 0 ≡ m = omega arith in
-    record { few = omega arith; most = omega (arith, e); places = refl; zeros = refl; holds = rw z refl }
 
 module _ {line : List ℕ} {from m at count : ℕ} {numbers : List ℕ} (t : Taking line from m at count numbers) where
   pub taking_more : {r : Numeral} → count < m → NumberRead line at r → Taking line from m (r.end + 1) (count + 1) (set numbers count (unwrap_or r.number number_end))

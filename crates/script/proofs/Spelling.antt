@@ -88,11 +88,6 @@ module _ {line : List ℕ} {from : ℕ} where
         small = rw d (omega (arith, p.small));
       }
 
-  pub near_room : {v i : ℕ} → Near line from v i → i < from + 5 → v < 10000
-  near_room {v} {i} p few =
-      let l : 10 ^ (i - from) ≤ 10 ^ 4 = pow-le-pow_right {n = 10} (omega arith) {i = i - from} {j = 4} (omega arith) in
-      omega (arith, p.small)
-
   -- a comma ends it
   pub spelt_ended : {v end : ℕ} → Spelt line from v end → get_or line end 0 ≡ comma → NumberRead line from (record { number = Some v; end = end })
   spelt_ended {v} {end} p e =

@@ -83,6 +83,7 @@ fn near_number(line: &[u8], from: usize) -> Option<Numeral>
     if value == 0 {
         return ended_number(line, from, value, from + 1);
     }
+    // By index: it is also where the number ends, at the first byte that is no digit.
     for end in from + 1..from + 5 {
         let digit = digit_value(line[end]);
         if 9 < digit {
@@ -116,9 +117,7 @@ pub(crate) fn count_in(line: &[u8], from: usize) -> Option<usize>
     // Each turn passes a field, of its own length.
     while at <= n {
         let numeral = numeral_from(line, at);
-        if numeral.number.is_none() {
-            return None;
-        }
+        numeral.number?;
         count += 1;
         at = numeral.end + 1;
     }

@@ -5,7 +5,8 @@ ghost use Rattle.script.specs.Spans.{cut, first_text, second_text, powers_read};
 use crate::numbers::numeral_from;
 use crate::reading::Line;
 
-// What stands for a field that is no number: the least number that has more than five digits.
+// What stands for a field that is no number: the least number that has more than five digits. No Option: a load's call
+// takes its powers as numbers side by side, and of a line that was read each field is one.
 const NUMBER_END: u32 = 100000;
 
 // The part of a line from a place to before another, as far as it lies in the line.
@@ -16,12 +17,14 @@ fn part(line: &[u8], from: usize, to: usize) -> &[u8]
     &line[from.min(end)..end]
 }
 
+// The line's first text, from after its letter and comma to where it was read to end.
 pub fn first_text(line: &[u8], read: Line) -> &[u8]
     ensures { result.now ≡ first_text line.now read }
 {
     part(line, 2, read.first)
 }
 
+// The line's second text, after the comma that ends the first.
 pub fn second_text(line: &[u8], read: Line) -> &[u8]
     ensures { result.now ≡ second_text line.now read }
 {
@@ -35,12 +38,14 @@ pub struct Powers {
     pub numbers: [u32; 256],
 }
 
+// The powers of a line that was read, from the place where they start: at most 256, and no more than there are fields.
 pub fn powers_of(line: &[u8], read: Line) -> Powers
     ensures { result ≡ powers_read line.now read }
 {
     let most = read.count.min(256);
     let mut numbers = [0u32; 256];
     let mut at = read.from;
+    // By index: it is also how many powers there are where the line ends early.
     for count in 0..most {
         if line.len() < at {
             return Powers { count, numbers };

@@ -1,4 +1,5 @@
-// What a line of the script asks. A number that a line ends with is its rest: one with a comma is no number.
+// What a line of the script asks. A number that a line ends with is its rest: one with a comma is no number. A line
+// and a place in it go as two parameters, as in `fields`.
 ghost use Rattle.std.specs.Prelude.{◌≡◌, ◌≤◌, length};
 ghost use Rattle.script.specs.Lines.{advance_line, enrol_line, category_line, load_line, file_line};
 ghost use Rattle.script.specs.Lines.{engagement_line, record_line};

@@ -64,10 +64,6 @@ module _ (line : List ℕ) (r : Line) where
 
   -- what a line that only asks says
   module _ (l : Ledger) {said : Said} where
-    pub engaged_said : {x y : List ℕ} {a : Result ℕ Refusal} → said ≡ said_number a → a ≡ ask_engagement l x y r.day r.number → x ≡ first_text line r →
-        y ≡ second_text line r → said ≡ said_number (ask_engagement l (first_text line r) (second_text line r) r.day r.number)
-    engaged_said f g h k = f ∙ ap said_number (g ∙ ap₂ (λ (x y : List ℕ). ask_engagement l x y r.day r.number) h k)
-
     pub engagement_said : r.kind ≡ Engagement → said ≡ said_number (ask_engagement l (first_text line r) (second_text line r) r.day r.number) →
         said ≡ ask_step l (asked line r)
     unfolding ask_step

@@ -16,6 +16,7 @@ pub fn answer(store: &mut Store, line: &[u8], read: Line, file: File) -> Said
     ensures { tells (register_in store.new) result ≡ line_step (register_in store.old) file (asked line.now read) }
 {
     let kind = read.kind;
+    // A match and no table of closures: each kind has its own arguments.
     match kind {
         Kind::Calls(call) => called(store, call, line, read),
         Kind::Files => filed(store, line, read, file),

@@ -1,10 +1,10 @@
 // The lines that only ask: E and R, and those of no known form.
-ghost use Rattle.std.specs.Prelude.{◌≡◌};
+ghost use Rattle.std.specs.Prelude.{◌≡◌, List, ℕ};
 ghost use Rattle.ledger.specs.Asking.{ask_engagement};
 ghost use Rattle.answers.specs.Values.{said_number};
 ghost use Rattle.script.specs.Spans.{first_text, second_text, asked};
 ghost use Rattle.session.specs.Lines.{ask_step};
-ghost use Rattle.session.specs.Stores.{ledger_in};
+ghost use Rattle.session.specs.Stores.{ledger_but};
 
 use crate::store::Store;
 use answers::{Said, of_number, of_shown, refused};
@@ -16,8 +16,9 @@ pub(crate) const NO_CALL: u32 = 11;
 
 // What a line says that asks for an engagement, by what was read of it.
 pub fn engaged(store: &Store, line: &[u8], read: Line) -> Said
-    ensures { result
-        ≡ said_number (ask_engagement (ledger_in store.now)
+    ensures { (ids approved : List ℕ) →
+        result
+        ≡ said_number (ask_engagement (ledger_but store.now ids approved)
         (first_text line.now read) (second_text line.now read) read.day read.number) }
 {
     let actor = first_text(line, read);
@@ -39,9 +40,11 @@ pub fn engaged(store: &Store, line: &[u8], read: Line) -> Said
 
 // What a line says that only asks, by what was read of it.
 pub fn ask(store: &Store, line: &[u8], read: Line) -> Said
-    ensures { result ≡ ask_step (ledger_in store.now) (asked line.now read) }
+    ensures { (approved : List ℕ) →
+        result ≡ ask_step (ledger_but store.now store.now.ids approved) (asked line.now read) }
 {
     let kind = read.kind;
+    // A match, as in `answer`.
     match kind {
         Kind::Engagement => engaged(store, line, read),
         Kind::RecordOf => {

@@ -25,6 +25,7 @@ pub(crate) fn called(store: &mut Store, call: CallKind, line: &[u8], read: Line)
         (call_of call (first_text line.now read) (second_text line.now read) read.day read.number
         (powers_of line.now read))) }
 {
+    // A match, as in `answer`: each call has its own arguments.
     match call {
         CallKind::Advance => {
             let reply = store.head.advance(read.day, read.number);

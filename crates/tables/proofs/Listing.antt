@@ -23,16 +23,6 @@ through P low (suc high) h next p =
 
 -- ---- making the list
 
-pub listed_none : (test : ℕ → Bool) (places : List ℕ) → PlacesOf test 0 0 places
-listed_none test places =
-    record {
-      few = omega arith;
-      up = λ j h. absurd (omega arith);
-      below = λ j h. absurd (omega arith);
-      between = λ j i h a b. absurd (omega arith);
-      after = λ i a b. absurd (omega arith);
-    }
-
 module _ (test : ℕ → Bool) (n count : ℕ) (places : List ℕ) (l : PlacesOf test n count places) where
   -- a number that fails the test is not listed
   pub listed_skip : test n ≡ false → PlacesOf test (n + 1) count places
@@ -52,49 +42,6 @@ module _ (test : ℕ → Bool) (n count : ℕ) (places : List ℕ) (l : PlacesOf
   reached_set : (v j : ℕ) → j ≤ count → reached (set places count v) j ≡ reached places j
   reached_set v zero h = refl
   reached_set v (suc j) h = ap suc (get_or-set_other places count j v 0 (λ e. omega arith))
-
-  -- any number may be
-  pub listed_push : count < length places → PlacesOf test (n + 1) (count + 1) (set places count n)
-  listed_push h =
-      record {
-        few = omega (arith, l.few);
-        up = λ j a. up j a (ℕ_discrete j count);
-        below = λ j a. below j a (ℕ_discrete j count);
-        between = λ j i a b c. between j i a b c (ℕ_discrete j count);
-        after = λ i a b. absurd (omega (arith, end));
-      }
-    where
-      here : get_or (set places count n) count 0 ≡ n
-      here = get_or-set_same places count n 0 h
-
-      end : reached (set places count n) (count + 1) ≡ suc n
-      end = ap (reached (set places count n)) (add-one count) ∙ ap suc here
-
-      reach : reached places count ≤ n
-      reach = bound count (omega arith)
-        where
-          bound : (j : ℕ) → j ≤ count → reached places j ≤ n
-          bound zero a = omega arith
-          bound (suc j) a = omega (arith, l.below j (omega arith))
-
-      up : (j : ℕ) → j < count + 1 → Dec (j ≡ count) → reached (set places count n) j ≤ get_or (set places count n) j 0
-      up j a (yes e) =
-          subst (λ k. reached (set places count n) k ≤ get_or (set places count n) k 0) (sym e)
-          (omega (arith, here, reached_set n count (omega arith), reach))
-      up j a (no ne) =
-          omega (arith, get_or-set_other places count j n 0 ne, reached_set n j (omega arith), l.up j (omega arith))
-
-      below : (j : ℕ) → j < count + 1 → Dec (j ≡ count) → get_or (set places count n) j 0 < n + 1
-      below j a (yes e) = subst (λ k. get_or (set places count n) k 0 < n + 1) (sym e) (omega (arith, here))
-      below j a (no ne) = omega (arith, get_or-set_other places count j n 0 ne, l.below j (omega arith))
-
-      between : (j i : ℕ) → j < count + 1 → reached (set places count n) j ≤ i → i < get_or (set places count n) j 0 → Dec (j ≡ count) → test i ≡ false
-      between j i a b c (yes e) =
-          let r = subst (λ k. reached (set places count n) k ≤ i) e b in
-          let t = subst (λ k. i < get_or (set places count n) k 0) e c in
-          l.after i (omega (arith, reached_set n count (omega arith))) (omega (arith, here))
-      between j i a b c (no ne) =
-          l.between j i (omega arith) (omega (arith, reached_set n j (omega arith))) (omega (arith, get_or-set_other places count j n 0 ne))
 
   -- ---- using it: what stays as it is where the test fails is carried from one listed place to the next
 

@@ -35,7 +35,8 @@ impl Actors {
         self.count.min(ACTORS)
     }
 
-    // The place of the actor with this code; the number of actors where there is none.
+    // The place of the actor with this code; the number of actors where there is none, and no Option: so it is in the
+    // ledger's `actor_at`, which the contract names.
     pub fn place(self, code: &[u8]) -> u32
         ensures { result ≡ actor_at (actors_in self) code.now }
     {

@@ -44,7 +44,7 @@ impl Categories {
         self.count.min(CATEGORIES)
     }
 
-    // The place of a category; the number of categories where there is none.
+    // The place of a category; the number of categories where there is none, as in the ledger's `category_at`.
     pub fn place(self, s: &[u8]) -> u32
         ensures { result ≡ category_at (categories_in self) s.now }
     {

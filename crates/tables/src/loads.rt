@@ -45,7 +45,7 @@ pub fn row_at(rows: &[[u16; 50]; 64], at: Option<u32>) -> [u16; 50]
     }
 }
 
-// The approved power of a load that was found, or 0.
+// The approved power of a load that was found, or 0. `row_at` gives a row so: the two are as long as one would be.
 pub fn approved_of(approved: &[u16; 64], at: Option<u32>) -> u32
     ensures { (result ≡ load_most approved.now at) × (result ≤ 65535) }
 {

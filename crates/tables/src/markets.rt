@@ -19,7 +19,8 @@ fn bits_of_four(keys: &[u32; 256], i: u32, market: u32) -> u32
 }
 
 // The place of the next of the first n records, from i on, that is of a category and day; n where there is none, or i
-// where that is above n. Both parties often file in turn, so record i is looked at first.
+// where that is above n: a number and no Option, since the contract names `first_from`. Both parties often file in
+// turn, so record i is looked at first.
 pub fn next_of(keys: &[u32; 256], i: u32, n: u32, market: u32) -> u32
     ensures { result ≡ first_from (in_market keys.now market) i (min n 256 - i) }
 {

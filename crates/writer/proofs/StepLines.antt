@@ -131,9 +131,6 @@ module _ (steps step p : ℕ) (buffer : List ℕ) (at : ℕ) (room : at + length
 -- ---- a power from its digits
 
 module _ (p : ℕ) (bytes : List ℕ) (len : ℕ) (e : Digited p bytes len) where
-  pub digits_few : len ≤ length bytes
-  digits_few = omega (arith, e.1, e.2, digits_length p)
-
   pub power_room : (at room : ℕ) → at + length (power_text p) ≤ room → at + length (take len bytes) < room
   power_room at room h = omega (arith, ap length e.0, length-append (digits p) (59 ∷ []))
 

@@ -1,5 +1,5 @@
 -- A text for each step, one after another: with one step more there is one text more at the end.
-use mathlib.Core.Path.{◌≡◌, sym, ap}
+use mathlib.Core.Path.{◌≡◌, sym, ap, ◌∙◌}
 use mathlib.Core.List.{List, [], ◌∷◌, ◌++◌, append_assoc, append-nil}
 use Prim.Native.Nat.{ℕ, suc, ◌+◌, ◌-◌, ◌*◌, ◌<◌, ◌≤◌}
 use native.Mathlib.Nat.{add-zero, zero-add, mul-suc}
@@ -7,8 +7,9 @@ use native.Mathlib.Numerals.{add-one}
 use native.Mathlib.Omega.{arith}
 use lib.Dec.{ltb}
 use lib.ListN.{length, get_or, take, drop, length-append}
-use lib.Seq.{take-suc, take-add, length-take-le}
+use lib.Seq.{take-suc, take-add, length-take-le, drop-drop}
 use borrow.Author.Tests.{ltb-true}
+use Rattle.std.proofs.lemmas.List.{get_or-drop}
 use Rattle.lists.proofs.Searches.{every_at}
 use Rattle.notification.specs.Forms.{power_end}
 use Rattle.writer.specs.Placing.{Placed, Powered, step_texts}
@@ -85,3 +86,11 @@ module _ (text : ℕ → ℕ → List ℕ) where
 pub step_power : (steps : ℕ) (ps : List ℕ) → Powered steps ps → (k : ℕ) → k < steps → get_or ps k 0 < power_end
 step_power steps ps w k h =
     ltb-true (get_or ps k 0) power_end (every_at (λ p. ltb p power_end) ps k 0 w.in_range_lem (omega (arith, w.there)))
+
+-- what is left of the powers, with the first of it taken
+module _ (ps rest : List ℕ) (k p : ℕ) (e : drop k ps ≡ p ∷ rest) where
+  pub left_first : p ≡ get_or ps k 0
+  left_first = sym (ap (λ (s : List ℕ). get_or s 0 0) e) ∙ get_or-drop k ps 0 0 ∙ ap (λ (i : ℕ). get_or ps i 0) (add-zero k)
+
+  pub left_more : rest ≡ drop (k + 1) ps
+  left_more = sym (ap (drop 1) e) ∙ drop-drop 1 k ps

@@ -1,4 +1,5 @@
-// A step's line: its two labels and its power, each ended by `;`, and LF.
+// A step's line: its two labels and its power, each ended by `;`, and LF. A step, the day's steps and a power go as
+// numbers with their bounds: they are what a notification has.
 ghost use Rattle.std.specs.Prelude.{◌≡◌, [], ◌∷◌, ◌++◌, ◌+◌, ◌%◌, ◌≤◌, ◌<◌, length, take};
 ghost use Rattle.calendar.specs.Steps.{long_steps};
 ghost use Rattle.notification.specs.Forms.{power_end, digits};

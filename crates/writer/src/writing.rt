@@ -22,8 +22,8 @@ fn lines_length(steps: u32, powers: &[u16]) -> usize
     ensures { result ≡ length (lines_of steps 0 (take steps powers.now)) }
 {
     let mut sum: usize = 0;
-    for k in 0..steps {
-        sum += line_length(steps, k, powers[k as usize]);
+    for (k, power) in (0..steps).zip(powers) {
+        sum += line_length(steps, k, *power);
     }
     sum
 }
@@ -102,8 +102,8 @@ fn put_lines(buffer: &mut [u8], at: usize, steps: u32, powers: &[u16]) -> usize
         buffer.new result }
 {
     let mut next = at;
-    for k in 0..steps {
-        next = put_line(buffer, next, steps, k, powers[k as usize]);
+    for (k, power) in (0..steps).zip(powers) {
+        next = put_line(buffer, next, steps, k, *power);
     }
     next
 }

@@ -11,4 +11,4 @@ pub returns-in-Files : goal.returns-in-Files
 returns-in-Files c = c.filed.ensures ∙ files_line _ _ _ _ c.in-Files.is
 
 pub returns-in_default : goal.returns-in_default
-returns-in_default c = ap (tells _) c.ask.ensures ∙ asks_line _ _ _ _ c.in_default.not-Calls c.in_default.not-Files
+returns-in_default c = ap (tells _) (c.ask.ensures _) ∙ asks_line _ _ _ _ c.in_default.not-Calls c.in_default.not-Files
