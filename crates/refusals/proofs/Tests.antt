@@ -87,9 +87,19 @@ decided P (Err r) done refused f g = g r refl
 
 -- ---- tests tried one after another
 
+pub tried_met : (v : Verdict) (met : Bool) (r : Refusal) → v ≡ pass → met ≡ true → Err r ≡ tried v (met, r)
+tried_met v met r e m = rw (e, m)
+
+pub tried_after : (v : Verdict) (q : Refusal) (met : Bool) (r : Refusal) → v ≡ Err q → Err q ≡ tried v (met, r)
+tried_after v q met r e = rw e
+
 abbrev pub tried_all : Verdict → List Test → Verdict
 tried_all v [] = v
 tried_all v (t ∷ ts) = tried_all (tried v t) ts
+
+-- one test more, of a verdict that those before it came to
+pub then_tried : (u v w : Verdict) (met : Bool) (r : Refusal) → w ≡ tried v (met, r) → v ≡ u → w ≡ tried u (met, r)
+then_tried u v w met r e f = e ∙ ap (λ v. tried v (met, r)) f
 
 refused_stays : (r : Refusal) (ts : List Test) → tried_all (Err r) ts ≡ Err r
 refused_stays r [] = refl
