@@ -3,7 +3,8 @@
 -- replaced whole, and what can be loaded.
 use Rattle.std.specs.Prelude.{Err, Ok}
 use mathlib.Core.Path.{◌≡◌, refl, sym, ◌∙◌, ap}
-use mathlib.Core.Bool.{Bool, true, false, ◌&&◌, ◌||◌, true≢false}
+use mathlib.Core.Bool.{Bool, true, false, not, ◌&&◌, ◌||◌, true≢false}
+use mathlib.Core.List.{[], ◌∷◌}
 use Prim.Native.Nat.{ℕ, ◌+◌, ◌-◌, ◌*◌, ◌/◌, ◌<◌, ◌≤◌}
 use native.Mathlib.Omega.{arith}
 use lib.Dec.{leb, ltb, eqb}
@@ -11,8 +12,11 @@ use borrow.Author.Tests.{ltb-true, ltb-false, leb-true, leb-false, eqb-true, le-
 use Rattle.calendar.specs.Dates.{date}
 use Rattle.calendar.specs.Steps.{step_minutes, last_sunday, steps_of}
 use Rattle.calendar.specs.Clocks.{fresh_clock, after_hour, first_counted, counts, replaces_whole, loadable, is_moment, is_before, advance_tests, advanced}
-use Rattle.refusals.specs.Tests.{first_met, decide, Verdict, pass}
+use Rattle.refusals.specs.Tests.{input, state, first_met, decide, Verdict, pass}
 use Rattle.refusals.specs.declared.Refusal.{Refusal}
+use Rattle.refusals.specs.declared.InputRefusal.TheVariants.{Range}
+use Rattle.refusals.specs.declared.StateRefusal.TheVariants.{Back}
+use Rattle.refusals.proofs.Tests.{tried_all, tried_first}
 use Rattle.calendar.specs.declared.clock.Clock.{Clock}
 use Rattle.lists.proofs.Tests.{both_true, both_false, right_false}
 
@@ -151,6 +155,11 @@ loadable_counts c day step e =
     counts_from c day step (omega (arith, ltb-true c.day day p.0)) (omega (arith, eqb-true (first_counted c day) 0 p.1))
 
 -- ---- advanced
+
+-- 10, 38, tried one after the other
+pub advance_tried : (c to : Clock) (moment before : Bool) → moment ≡ is_moment to → before ≡ is_before to c →
+    tried_all pass ((not moment, input Range) ∷ (before, state Back) ∷ []) ≡ first_met (advance_tests c to)
+advance_tried c to moment before em eb = tried_first ((not moment, input Range) ∷ (before, state Back) ∷ []) ∙ rw (em, eb)
 
 -- what the clock answers tells what its tests come to
 module _ (c to : Clock) where
