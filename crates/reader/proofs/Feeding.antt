@@ -6,7 +6,7 @@ use Prim.Native.Nat.{ℕ, ◌+◌, ◌-◌, ◌<◌, ◌≤◌, min}
 use native.Mathlib.Omega.{arith}
 use lib.Dec.{leb, ltb, eqb}
 use lib.ListN.{length, take, drop, length-append, length-take}
-use lib.Seq.{take_at, take-take}
+use lib.Seq.{take_at, take-take, length-take-le}
 use mir.Val.{Val}
 use denote.Laws.{Is}
 use borrow.Author.Tests.{not-true, not-false, eqb-true, eqb-false, leb-true, leb-false, ltb-true, ltb-false, le-leb, lt-leb, ne_eqb}
@@ -80,6 +80,25 @@ module _ (header : List ℕ) (named : ℕ) (l : length header ≡ 51) where
 
   no_name : named < 50 → has_name (take named header) ≡ false
   no_name h = lt-leb 50 (length (take named header)) (rw (length-take, l) (omega arith))
+
+-- as many of its bytes as are lent
+module _ (header : List ℕ) (named n : ℕ) (l : length header ≡ 51) (a : n ≡ min named 51) where
+  pub name_inside : n ≤ length header
+  name_inside = omega arith
+
+  pub name_count : n ≡ length (take n header)
+  name_count = sym (length-take-le n header name_inside)
+
+  pub name_between : 50 ≤ named → (50 ≤ length (take n header)) × (length (take n header) ≤ 51)
+  name_between h = let c = name_count in (omega arith, omega arith)
+
+-- a line with its LF, lent
+module _ (text line : List ℕ) (k : ℕ) (e : take (k + 1) text ≡ line ++ 10 ∷ []) (z : k ≡ length line) where
+  pub text_count : k + 1 ≡ length (take (k + 1) text)
+  text_count = let h = ap length e in omega (arith, length-append line (10 ∷ []))
+
+  pub text_inside : k + 1 ≤ length text
+  text_inside = omega (arith, text_count, length-take (k + 1) text)
 
 -- ---- a piece more
 

@@ -58,6 +58,9 @@ module _ (h s : List ℕ) (from : ℕ) (t : FileTally) where
 pub headed_long : (h s : List ℕ) (from : ℕ) → from ≤ length s → starts_with h (drop from s) ≡ true → from + length h ≤ length s
 headed_long h s from l e = omega (arith, starts_long h (drop from s) e, length-drop from s)
 
+pub not_first : (h text : List ℕ) (found : ℕ) → (found ≡ 0 → ⊥) → is_headed h found text ≡ false
+not_first h text found f = rw (ne_eqb found 0 f)
+
 pub first_said : (h text : List ℕ) (found : ℕ) (b : Bool) → found ≡ 0 → starts_with h text ≡ b → is_headed h found text ≡ b
 first_said h text found b z e = rw (eq-eqb found 0 z) e
 
