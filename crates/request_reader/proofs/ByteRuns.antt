@@ -182,7 +182,7 @@ module _ (s : List ℕ) (from end : ℕ) (b : is_blank (get_or s from 0) ≡ fal
         (λ t. ltb-true from end t)
         (λ t. let h = ltb-false from end t in let o = r.on in absurd (some (omega arith)))
 
-    digits_within : end ≤ length s
+    pub digits_within : end ≤ length s
     digits_within = r.within
 
     run_length : length run ≡ end - from

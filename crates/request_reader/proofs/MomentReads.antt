@@ -3,17 +3,17 @@
 use mathlib.Core.Path.{◌≡◌, refl, sym, ap, ◌∙◌}
 use mathlib.Core.Bool.{Bool, true, false, ◌&&◌}
 use mathlib.Core.List.{List, [], ◌∷◌}
-use Prim.Native.Nat.{ℕ, zero, suc, ◌+◌, ◌*◌, ◌/◌, ◌%◌, ◌<◌, ◌≤◌}
+use Prim.Native.Nat.{ℕ, zero, suc, ◌+◌, ◌-◌, ◌*◌, ◌/◌, ◌%◌, ◌<◌, ◌≤◌}
 use native.Mathlib.Omega.{arith}
-use lib.Dec.{eqb, ltb}
+use lib.Dec.{eqb, ltb, leb}
 use lib.ListN.{length, get_or, drop, drop_of_length-le}
 use lib.Seq.{drop-cons}
-use borrow.Author.Tests.{ltb-true, lt-ltb, eqb-true}
+use borrow.Author.Tests.{ltb-true, lt-ltb, leb-true, eqb-true}
 use Rattle.std.specs.Prelude.{Some, None}
 use Rattle.std.proofs.lemmas.Option.{none-some}
 use Rattle.lists.proofs.Tests.{by_test, true_false, and_left, and_right}
 use Rattle.calendar.specs.Dates.{day_count}
-use Rattle.calendar.specs.Texts.{tens, ones, text_of, pair_of, day_at, day_of}
+use Rattle.calendar.specs.Texts.{tens, ones, digit, text_of, pair_of, day_at, day_of}
 use Rattle.calendar.proofs.Reading.{eight_read}
 use Rattle.calendar.proofs.TwoWays.{read_text, text_read, pair_digits, digits_pair}
 use Rattle.request.specs.Moments.{day_seconds, in_time, moment_text, moment_in, is_moment_text}
@@ -190,3 +190,14 @@ module _ (s : List ℕ) where
         let k : time < day_seconds = omega (arith, f.1, p.hours, p.minutes, p.seconds) in
         let i : in_time x ≡ true = rw (lt-ltb n day_count w.1, lt-ltb time day_seconds k) in
         (ap is_moment_text (sym y) ∙ moment_made x i, sym (moment_read x i) ∙ ap moment_in y)
+
+-- the parts of the time, one by one
+pub pair_most : (a b : ℕ) → pair_of a b ≤ 100
+unfolding pair_of
+pair_most a b = by_test (digit a && digit b) (λ q. rw q (pair_sum a b q)) (λ q. rw q (omega arith))
+  where
+    pair_sum : (a b : ℕ) → (digit a && digit b) ≡ true → 10 * (a - 48) + (b - 48) ≤ 100
+    pair_sum a b q =
+        let f = leb-true a 57 (and_right (leb 48 a) (leb a 57) (and_left (digit a) (digit b) q)) in
+        let g = leb-true b 57 (and_right (leb 48 b) (leb b 57) (and_right (digit a) (digit b) q)) in
+        omega arith

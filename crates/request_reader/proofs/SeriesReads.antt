@@ -78,7 +78,7 @@ abbrev a_brace : List (List ℕ → Bool)
 a_brace = is (125 ∷ []) ∷ []
 
 module _ (s : List ℕ) (at : ℕ) where
-  not_closed : Missing closing s at → false ≡ fits closing (tokens (drop at s))
+  pub not_closed : Missing closing s at → false ≡ fits closing (tokens (drop at s))
   not_closed m = sym (fits_append closing [] (tokens (drop at s)) ∙ rw m)
 
   pub no_bracket : Missing a_bracket s at → false ≡ fits closing (tokens (drop at s))

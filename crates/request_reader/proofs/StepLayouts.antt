@@ -2,30 +2,40 @@
 use Rattle.std.specs.Prelude.{Option, Some, None}
 use mathlib.Core.Path.{◌≡◌, ap, ◌∙◌}
 use mathlib.Core.List.{List, [], ◌∷◌, ◌++◌}
-use mathlib.Core.Bool.{true}
+use mathlib.Core.Bool.{Bool, true, false}
 use Prim.Native.Nat.{ℕ, ◌+◌, ◌<◌, ◌≤◌}
 use native.Mathlib.Omega.{arith}
 use lib.Dec.{ltb}
-use lib.ListN.{length}
+use lib.ListN.{length, drop}
 use borrow.Author.Tests.{lt-ltb}
 use Rattle.lists.specs.Searches.{every, same}
-use Rattle.lists.proofs.Tests.{and_true}
+use Rattle.lists.proofs.Tests.{true_false, and_true}
 use Rattle.lists.proofs.Searches.{same_true}
 use Rattle.notification.specs.Forms.{is_digit}
+use Rattle.reader.specs.Walking.{starts_with}
 use Rattle.request.specs.Tokens.{quoted}
 use Rattle.request_reader.specs.declared.layouts.Layout.{Layout}
-use Rattle.request_reader.specs.Walking.{part, Passed}
+use Rattle.request_reader.specs.Walking.{part, Passed, is_quoted}
 use Rattle.request_reader.specs.Steps.{before_from, before_until, before_power, LaidOut, LabelEntry, RunSays, OwnSays, FrontAt}
+use Rattle.request_reader.proofs.Walks.{stands_inside, text_long}
 use Rattle.request_reader.proofs.Passing.{passed_on, passed_tokens}
 use Rattle.request_reader.proofs.LaidFronts.{label_again, run_token, run_length}
 
 -- ---- up to a label or to the power
+
+-- a text of so many bytes stands within the text
+pub text_inside : (s t : List ℕ) (at n : ℕ) → is_quoted t ≡ true → length t ≡ n → starts_with t (drop at s) ≡ true → at + n ≤ length s
+text_inside s t at n q long e = rw long at (stands_inside s t at (text_long t q) e)
 
 -- a byte by itself, a member's name and its colon, and blanks
 pub named_passed : (b : ℕ) (name s : List ℕ) (at mark text from : ℕ) → Passed ((b ∷ []) ∷ []) s at mark → Passed (name ∷ []) s mark text
     → Passed ((58 ∷ []) ∷ []) s text from → Passed ((b ∷ []) ∷ name ∷ (58 ∷ []) ∷ []) s at from
 named_passed b name s at mark text from p q r =
     passed_on ((b ∷ []) ∷ []) (name ∷ (58 ∷ []) ∷ []) s at mark from p (passed_on (name ∷ []) ((58 ∷ []) ∷ []) s mark text from q r)
+
+-- where no layout was found, nothing is claimed of one
+pub no_claims : {A B : Type 0} (regular : Bool) → regular ≡ false → (regular ≡ true → A) × (regular ≡ true → B)
+no_claims regular e = (λ r. true_false regular r e, λ r. true_false regular r e)
 
 -- ---- a step by its own places
 

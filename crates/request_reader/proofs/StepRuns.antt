@@ -30,6 +30,9 @@ use Rattle.request_reader.proofs.StepSeries.{first-front, rest_front}
 
 -- ---- one walk after another
 
+pub onward_refl : (steps : ℕ) (s : List ℕ) (at : ℕ) (x : Taken) → Onward steps s at x at x
+onward_refl steps s at x = record { its_form = refl; its_steps = λ q. refl; fewer = omega arith }
+
 pub onward_on : (steps : ℕ) (s : List ℕ) (a b c : ℕ) (x y z : Taken)
     → Onward steps s a x b y → Onward steps s b y c z → Onward steps s a x c z
 onward_on steps s a b c x y z o p =

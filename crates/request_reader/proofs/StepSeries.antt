@@ -96,6 +96,10 @@ others_empty n = refl
 rest_length : (n : ℕ) → 3 ≤ length (rest_tests n)
 rest_length n = let e = length-append (further is (map (step_of is) (replicate n step_test))) closing in omega arith
 
+pub no_rest : is_rest [] ≡ false
+unfolding is_rest
+no_rest = rest_empty (more_of [])
+
 closing_first : (ts : List (List ℕ)) → is (93 ∷ []) (get_or ts 0 []) ≡ false → fits closing ts ≡ false
 unfolding fits
 closing_first [] f = refl
