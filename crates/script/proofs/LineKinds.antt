@@ -152,12 +152,12 @@ module _ (line : List ℕ) (a : ℕ) (pa : FieldEnd line start a) where
     enrol_shorter h = unknown_as line {a = enrol_line (fields_from line start)} (rw (pa.parts, pb.parts, none_after line b h))
 
     module _ (c : ℕ) (pc : FieldEnd line (b + 1) c) where
-      enrol_long : c < length line → Reads line no_line (enrol_line (fields_from line start))
+      pub enrol_long : c < length line → Reads line no_line (enrol_line (fields_from line start))
       unfolding enrol_line
       enrol_long h = unknown_as line {a = enrol_line (fields_from line start)} (rw (pa.parts, pb.parts, pc.parts, some_after line c h))
 
       module _ (h : length line ≤ c) where
-        enrol_good : {first last : ℕ} → IsDay (cut line (a + 1) b) first → IsDay (cut line (b + 1) c) last
+        pub enrol_good : {first last : ℕ} → IsDay (cut line (a + 1) b) first → IsDay (cut line (b + 1) c) last
             → Reads line (plain (Calls EnrolActor) a 0 first last) (enrol_line (fields_from line start))
         unfolding enrol_line
         enrol_good {first} {last} p q =
@@ -165,7 +165,7 @@ module _ (line : List ℕ) (a : ℕ) (pa : FieldEnd line start a) where
             read_as_lem line {a = calls (Call.enrol_actor (cut line start a) first last)} {b = enrol_line (fields_from line start)} (rw (end_one pa) refl)
             (rw (pa.parts, pb.parts, pc.parts, none_after line c h, k, p.1, q.1))
 
-        enrol_bad : (is_day (cut line (a + 1) b) && is_day (cut line (b + 1) c)) ≡ false → Reads line no_line (enrol_line (fields_from line start))
+        pub enrol_bad : (is_day (cut line (a + 1) b) && is_day (cut line (b + 1) c)) ≡ false → Reads line no_line (enrol_line (fields_from line start))
         unfolding enrol_line
         enrol_bad k = unknown_as line {a = enrol_line (fields_from line start)} (rw (pa.parts, pb.parts, pc.parts, none_after line c h, k))
 
@@ -180,11 +180,11 @@ module _ (line : List ℕ) (a : ℕ) (pa : FieldEnd line start a) where
 -- ---- C
 
 module _ (line : List ℕ) (a : ℕ) (pa : FieldEnd line start a) where
-  category_long : a < length line → Reads line no_line (category_line (fields_from line start))
+  pub category_long : a < length line → Reads line no_line (category_line (fields_from line start))
   unfolding category_line
   category_long h = unknown_as line {a = category_line (fields_from line start)} (rw (pa.parts, some_after line a h))
 
-  category_good : length line ≤ a → Reads line (plain (Calls EnrolCategory) a 0 0 0) (category_line (fields_from line start))
+  pub category_good : length line ≤ a → Reads line (plain (Calls EnrolCategory) a 0 0 0) (category_line (fields_from line start))
   unfolding category_line
   category_good h = read_as_lem line {a = calls (Call.enrol_category (cut line start a))} {b = category_line (fields_from line start)} (rw (end_one pa) refl) (rw (pa.parts, none_after line a h))
 

@@ -37,7 +37,7 @@ module _ (line : List ℕ) (a : ℕ) (pa : FieldEnd line start a) where
         load_four h = unknown_as line {a = load_line (fields_from line start)} (rw (pa.parts, pb.parts, pc.parts, pd.parts, none_after line d h))
 
         module _ (h : d < length line) where
-          load_bad : (is_day (cut line (b + 1) c) && is_number (cut line (c + 1) d) && every is_number (fields_from line (d + 1))) ≡ false
+          pub load_bad : (is_day (cut line (b + 1) c) && is_number (cut line (c + 1) d) && every is_number (fields_from line (d + 1))) ≡ false
               → Reads line no_line (load_line (fields_from line start))
           unfolding load_line
           load_bad k =

@@ -3,13 +3,13 @@ use mathlib.Core.Path.{◌≡◌, refl, sym, ap, ◌∙◌}
 use mathlib.Core.Bool.{Bool, true, false, not, ◌&&◌, ◌||◌}
 use mathlib.Core.List.{List, [], ◌∷◌, ◌++◌}
 use Prim.Native.Nat.{ℕ, suc, ◌+◌, ◌-◌, ◌*◌, ◌^◌, ◌<◌, ◌≤◌}
-use native.Mathlib.Nat.{pow-le-pow_right}
+use native.Mathlib.Nat.{add-zero, pow-le-pow_right}
 use native.Mathlib.Numerals.{add-one}
 use native.Mathlib.Omega.{arith}
 use lib.Dec.{eqb, ltb, leb}
 use lib.ListN.{length, get_or, drop, length-append, get_or-append}
 use lib.Seq.{drop-cons, drop-length}
-use borrow.Author.Tests.{ltb-true, ltb-false, leb-true, le-leb, lt-leb, ne_eqb}
+use borrow.Author.Tests.{ltb-true, ltb-false, leb-true, lt-ltb, le-leb, lt-leb, ne_eqb}
 use Rattle.std.specs.Prelude.{Option, Some, None, unwrap_or}
 use Rattle.lists.specs.Digits.{digit_value}
 use Rattle.lists.specs.Searches.{every}
@@ -21,6 +21,10 @@ use Rattle.script.specs.Fields.{number_in}
 use Rattle.script.specs.Walking.{IsValue, ValueRead}
 
 -- ---- no number
+
+pub is_none : (s : List ℕ) → is_number s ≡ false → number_end ≡ number_in s
+unfolding number_in
+is_none s e = rw e
 
 pub empty_none : (s : List ℕ) → length s ≡ 0 → is_number s ≡ false
 unfolding is_number
@@ -127,6 +131,34 @@ number_parts s e =
     let b = leb (length s) most_digits in
     let f = and_left (a && b) (needed s) (and_left (a && b && needed s) (every digit s) e) in
     (leb-true 1 (length s) (and_left a b f), leb-true (length s) most_digits (and_right a b f), and_right (a && b && needed s) (every digit s) e)
+
+value_few : (s : List ℕ) (v k : ℕ) → every digit s ≡ true → v < 10 ^ k → value_from v s < 10 ^ (k + length s)
+unfolding value_from
+value_few [] v k e h = rw add-zero h
+value_few (b ∷ s) v k e h =
+    let d = and_left (digit b) (every digit s) e in
+    let l : b ≤ 57 = leb-true b 57 (and_right (leb 48 b) (leb b 57) d) in
+    let m : v * 10 + (b - 48) < 10 ^ suc k = omega arith in
+    let n : suc k + length s ≡ k + suc (length s) = omega arith in
+    rw (← n) (value_few s (v * 10 + (b - 48)) (suc k) (and_right (digit b) (every digit s) e) m)
+
+pub number_small : (s : List ℕ) → is_number s ≡ true → number_in s < number_end
+number_small s e =
+    let p = number_parts s e in
+    let few = p.1 in
+    let v : value_of s < 10 ^ (0 + length s) = value_few s 0 0 p.2 (omega arith) in
+    let l : 10 ^ (0 + length s) ≤ 10 ^ most_digits = pow-le-pow_right {n = 10} (omega arith) {i = 0 + length s} {j = most_digits} (omega arith) in
+    omega (arith, number_value s e)
+
+none_end : (s : List ℕ) → is_number s ≡ false → number_in s ≡ number_end
+none_end s e = sym (is_none s e)
+
+-- a text is a number where what it stands for is below the end
+pub number_test : (s : List ℕ) → ltb (number_in s) number_end ≡ is_number s
+number_test s =
+    by_test (is_number s)
+    (λ t. lt-ltb (number_in s) number_end (number_small s t) ∙ sym t)
+    (λ t. rw (t, none_end s t))
 
 -- ---- one digit more
 
