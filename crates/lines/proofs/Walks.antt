@@ -163,7 +163,7 @@ module _ {input : List ℕ} {given₀ : Option File} {w₀ : Walked} {given : Op
   stopped : (want : Wants) → walk given w (lines_in (drop w.at input)) ≡ stops w want → NamedIf input w.at want → Stopped want
   stopped want k n = (sym (g.on ∙ k), record { reached = g.reached; room = g.room; named = n })
 
-  past_end : length input ≤ w.at → Stopped Input
+  pub past_end : length input ≤ w.at → Stopped Input
   unfolding lines_in
   past_end h = stopped Input (rw (drop_of_length-le input h) (walk_none given w)) (omega arith)
 
