@@ -25,15 +25,15 @@ fn change_of(
     clock: Clock,
     by: u32,
     own: u32,
-    ps: [u16; 50],
+    ps: &[u16; 50],
     status: u8,
     mark: [u8; 4],
-    row: [u16; 50],
+    row: &[u16; 50],
 ) -> Change
     requires { first_counted clock (own / 256) < 256 }
     ensures { (id : ℕ) →
-        (result.status ≡ (changed paired clock by (key_from own) ps (rec_of id status own mark row)).status)
-        × (result.until ≡ (changed paired clock by (key_from own) ps (rec_of id status own mark row)).until) }
+        (result.status ≡ (changed paired clock by (key_from own) ps.now (rec_of id status own mark row.now)).status)
+        × (result.until ≡ (changed paired clock by (key_from own) ps.now (rec_of id status own mark row.now)).until) }
 {
     let until = mark[2];
     if status == CREATED {
@@ -98,8 +98,7 @@ fn change_at(
     let at = i as usize;
     if keys[at] == own {
         let mark = marks[at];
-        let row = rows[at];
-        let change = change_of(paired, clock, by, own, ps, statuses[at], mark, row);
+        let change = change_of(paired, clock, by, own, &ps, statuses[at], mark, &rows[at]);
         let next = with_until(mark, change.until);
         statuses[at] = change.status;
         marks[at] = next;

@@ -10,23 +10,24 @@ use tables::comparing::equal_pairs;
 use tables::records::{CREATED, Records};
 
 // Whether two rows have the same power at every step. Each step is looked at, so that many are compared at once.
-pub(crate) fn same_powers(ps: [u16; 50], qs: [u16; 50]) -> bool
-    ensures { result ≡ same_powers ps qs }
+pub(crate) fn same_powers(ps: &[u16; 50], qs: &[u16; 50]) -> bool
+    ensures { result ≡ same_powers ps.now qs.now }
 {
-    equal_pairs(&ps, &qs)
+    equal_pairs(ps, qs)
 }
 
-// Whether a record is the other party's created one under the key with the same powers.
+// Whether a record is the other party's created one under the key with the same powers. Rows go by reference, here and
+// in `changing`: by value, each record's would be copied before its status is looked at.
 fn is_answered(
     status: u8,
     key: u32,
     mark: [u8; 4],
-    row: [u16; 50],
+    row: &[u16; 50],
     by: u32,
     own: u32,
-    ps: [u16; 50],
+    ps: &[u16; 50],
 ) -> bool
-    ensures { result ≡ answers by (key_from own) ps (rec_of 0 status key mark row) }
+    ensures { result ≡ answers by (key_from own) ps.now (rec_of 0 status key mark row.now) }
 {
     key == own && status == CREATED && u32::from(mark[0]) != by && same_powers(row, ps)
 }
@@ -49,15 +50,14 @@ pub fn is_paired(
     for place in &places[..count as usize] {
         let at = usize::from(*place);
         let mark = records.marks[at];
-        let row = records.rows[at];
         found |= is_answered(
             records.statuses[at],
             records.keys[at],
             mark,
-            row,
+            &records.rows[at],
             by,
             own,
-            ps,
+            &ps,
         );
     }
     found

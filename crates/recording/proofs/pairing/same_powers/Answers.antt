@@ -1,9 +1,9 @@
 -- `pairing::same_powers` meets its contract: the powers are compared pair by pair.
-use mathlib.Core.Path.{sym, ◌∙◌, ap₂}
+use mathlib.Core.Path.{◌≡◌, sym, ◌∙◌, ap₂}
 use native.Mathlib.Omega.{arith}
+use lib.ListN.{length}
 use lib.Seq.{take_all}
-use mir.Syntax.{w16}
-use borrow.Kind.Array.{e_int, good_length}
+use Rattle.std.proofs.Common.{rules}
 use Rattle.lists.specs.Searches.{same}
 use Rattle.tables.proofs.Texts.{pairs_same}
 use Rattle.ledger.specs.Filing.{same_powers}
@@ -13,8 +13,10 @@ use Rattle.recording.proofs.pairing.same_powers.Goals as goal
 pub returns : goal.returns
 unfolding same_powers
 returns c =
-    let n = good_length (e_int w16) 50 c.args.ps _ c.well_formed.0 in
-    let m = good_length (e_int w16) 50 c.args.qs _ c.well_formed.1.0 in
-    c.equal_pairs.ensures ∙ pairs_same c.args.ps c.args.qs (omega arith)
-    ∙ ap₂ same (sym (take_all 50 c.args.ps (omega arith))) (sym (take_all 50 c.args.qs (omega arith)))
-    ∙ rows_same c.args.ps c.args.qs 50 (omega arith) (omega arith)
+    let ps = c.args.ps.now in
+    let qs = c.args.qs.now in
+    let n : length ps ≡ 50 = search rules in
+    let m : length qs ≡ 50 = search rules in
+    c.equal_pairs.ensures ∙ pairs_same ps qs (omega arith)
+    ∙ ap₂ same (sym (take_all 50 ps (omega arith))) (sym (take_all 50 qs (omega arith)))
+    ∙ rows_same ps qs 50 (omega arith) (omega arith)
