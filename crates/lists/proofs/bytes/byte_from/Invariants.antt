@@ -1,7 +1,0 @@
--- As long as the loop runs, the byte that is looked for from the place on is the one looked for at first.
-use mathlib.Core.Path.{◌≡◌}
-use Rattle.lists.specs.Searches.{byte_from}
-use Rattle.lists.proofs.bytes.byte_from.Given as goal
-
-abbrev pub invariant-loop-i : goal.invariant-loop-i
-invariant-loop-i l = byte_from l.b l.s l.i ≡ byte_from l.b l.s l.from
