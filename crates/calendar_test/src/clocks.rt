@@ -4,7 +4,7 @@ ghost use Rattle.calendar.specs.Dates.{day_count};
 
 use crate::printing::{label_bytes, text};
 use calendar::{Clock, DAYS};
-use refusals::Refusal;
+use refusals::number_of;
 use std::io;
 
 // How many steps of a day count.
@@ -84,8 +84,8 @@ fn advance_line(rt: &impl Print, from: Clock, to: Clock) -> io::Result<()> {
     )?;
     match from.advanced(to) {
         Ok(_) => println!(rt; " moves"),
-        Err(Refusal::Input(_, _)) => println!(rt; " is no moment"),
-        Err(Refusal::State(_, _)) => println!(rt; " would go back"),
+        Err(refusal) if number_of(refusal) == 10 => println!(rt; " is no moment"),
+        Err(_) => println!(rt; " would go back"),
     }
 }
 

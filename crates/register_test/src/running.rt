@@ -20,11 +20,16 @@ fn run_line(rt: &impl Print, book: &mut Book, line: &[u8]) -> io::Result<()> {
     put(rt, b"\n")
 }
 
-// Runs a text's lines one after another.
+// The most lines that a text has.
+const LINES: usize = 1000;
+
+// Runs a text's lines one after another. What stands behind the last LF is no line.
 pub(crate) fn run_lines(rt: &impl Print, text: &[u8]) -> io::Result<()> {
     let mut book = fresh_book();
-    for line in text.split_inclusive(|b| *b == b'\n') {
-        run_line(rt, &mut book, line.strip_suffix(b"\n").unwrap_or(line))?;
+    for line in text.split_inclusive(|b| *b == b'\n').take(LINES) {
+        if let Some(line) = line.strip_suffix(b"\n") {
+            run_line(rt, &mut book, line)?;
+        }
     }
     Ok(())
 }
