@@ -1,19 +1,15 @@
 -- The search for a byte from a place on: it stands there, or is looked for after it, or the text has ended.
-use mathlib.Core.Path.{◌≡◌, refl, ap, ◌∙◌}
+use mathlib.Core.Path.{◌≡◌, refl, ap}
 use mathlib.Core.Bool.{Bool, true, false, ◌||◌}
 use mathlib.Core.List.{List, [], ◌∷◌}
-use Prim.Native.Nat.{ℕ, zero, suc, ◌+◌, ◌-◌, ◌<◌, ◌≤◌}
+use Prim.Native.Nat.{ℕ, zero, suc, ◌+◌, ◌<◌, ◌≤◌}
 use native.Mathlib.Numerals.{add-one}
 use native.Mathlib.Omega.{arith}
-use lib.Dec.{ltb}
 use lib.ListN.{length, get_or, take, drop, length-drop, take-append-drop, drop_of_length-le}
 use lib.Seq.{drop-cons, drop-drop, length-take-le}
-use borrow.Author.Tests.{eq-eqb, ne_eqb, ltb-false}
-use Rattle.std.specs.Prelude.{Option, unwrap_or}
-use Rattle.std.specs.List.{position, position_or_len}
+use borrow.Author.Tests.{eq-eqb, ne_eqb}
 use Rattle.lists.specs.Searches.{some, place_of, is_byte, byte_from}
-use Rattle.lists.proofs.Tests.{by_test, or_left, or_right}
-use Rattle.lists.proofs.Parts.{rest_all}
+use Rattle.lists.proofs.Tests.{or_left, or_right}
 use Rattle.lists.proofs.Places.{place_end, place_later}
 
 -- one byte more
@@ -40,28 +36,7 @@ place_none p (x ∷ s) e =
     let f = or_left (p x) (some p s) e in
     rw f (omega (arith, place_none p s (or_right (p x) (some p s) e)))
 
-place_or_len : (p : ℕ → Bool) (u : List ℕ) → position_or_len p u ≡ place_of p u
-unfolding place_of
-place_or_len p [] = refl
-place_or_len p (x ∷ u) = by_test (p x) (λ t. rw t refl) (λ t. rw t (omega (arith, place_or_len p u)))
-
--- what the library's search gives, and the number of entries where it gives nothing
-pub position_place : (p : ℕ → Bool) (u : List ℕ) → unwrap_or (position p u) (length u) ≡ place_of p u
-position_place p u =
-    by_test (ltb (position_or_len p u) (length u))
-    (λ t. rw t (place_or_len p u))
-    (λ t. rw t (omega (arith, place_or_len p u, place_end p u, ltb-false (position_or_len p u) (length u) t)))
-
 module _ (b : ℕ) (s : List ℕ) where
-  -- what is found in the rest of the text, and its end where nothing is
-  pub byte_searched : (from : ℕ) (r : Option ℕ) → r ≡ position (is_byte b) (take (length s - from) (drop from s)) →
-      from + unwrap_or r (length (drop from s)) ≡ byte_from b s from
-  unfolding byte_from
-  byte_searched from r e =
-      let q = ap (λ (l : List ℕ). position (is_byte b) l) (rest_all from s) in
-      let p = ap (λ (o : Option ℕ). unwrap_or o (length (drop from s))) (e ∙ q) ∙ position_place (is_byte b) (drop from s) in
-      omega (arith, p)
-
   pub byte_after : (from : ℕ) → from ≤ byte_from b s from
   unfolding byte_from
   byte_after from = omega arith

@@ -64,7 +64,9 @@ fn take_header(t: FileTally, header: &[u8], body: &[u8], from: usize) -> Run<Fil
     }
 }
 
-// The lines after a header that isn't the name's, or before any: the first is looked at where there was none.
+// The lines after a header that isn't the name's, or before any: the first is looked at where there was none. Not
+// inlined, since a good file's lines don't come here.
+#[inline(never)]
 fn pass_lines(t: FileTally, body: &[u8], from: usize) -> Run<FileTally>
     requires { (from ≤ length body.now) × (t.header ≡ 1 → ⊥) }
     ensures by_index { (steps : ℕ) (powers : List ℕ) → with_powers result.tally powers
